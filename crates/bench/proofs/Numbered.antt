@@ -1,13 +1,9 @@
 -- Symbols whose names are the four bytes of their positions.
 use Rattle.std.proofs.Common.{◌≡◌, ◌∙◌, ℕ, ◌+◌, ◌<◌, ◌^◌, Bool, true, false, not, ◌&&◌, ◌||◌, List, [], ◌∷◌, ◌++◌, refl, sym, ap, arith, bytes_eq, w32, Ok, Result}
-use Rattle.std.specs.Int.{from_le_bytes, to_le_bytes}
-use Rattle.std.specs.List.{AllByRecursion}
-use Rattle.std.proofs.lemmas.Nat.{from_le_bytes-to_le_bytes_4}
-use Rattle.std.proofs.lemmas.Slice.Eq.{bytes_eq-Decides}
+use Rattle.std.specs.{Int.{from_le_bytes, to_le_bytes}, List.{AllByRecursion}}
+use Rattle.std.proofs.lemmas.{Nat.{from_le_bytes-to_le_bytes_4}, Slice.Eq.{bytes_eq-Decides}}
 use Rattle.oc_linking.specs.Parts.{is_local}
-use Rattle.oc_neutral.specs.declared.fault.BuildFault.{BuildFault}
-use Rattle.oc_neutral.specs.declared.symbol.Symbol.{Symbol}
-use Rattle.oc_neutral.specs.Building.{Draft, has_name, symbol_added}
+use Rattle.oc_neutral.specs.{declared.fault.BuildFault.{BuildFault}, declared.symbol.Symbol.{Symbol}, Building.{Draft, has_name, symbol_added}}
 use Rattle.oc_neutral.proofs.MoreSymbols.{symbol_taken, symboled}
 
 -- each has the name of a number below k

@@ -1,19 +1,10 @@
 -- The object of which the fitting is timed.
-use Rattle.std.specs.Prelude.{◌≡◌, ℕ, ◌+◌, ◌<◌, ◌^◌, List, [], ◌∷◌, codes, length, None}
-use Rattle.std.specs.List.{AllByRecursion}
-use Rattle.oc_base.specs.declared.format.Format.{Format}
-use Rattle.oc_base.specs.declared.format.Format.TheVariants.{Elf32, Elf64}
-use Rattle.oc_base.specs.declared.format.Word.{Word}
+use Rattle.std.specs.{Prelude.{◌≡◌, ℕ, ◌+◌, ◌<◌, ◌^◌, List, [], ◌∷◌, codes, length, None}, List.{AllByRecursion}}
+use Rattle.oc_base.specs.{declared.format.Format.{Format}, declared.format.Format.TheVariants.{Elf32, Elf64}, declared.format.Word.{Word}}
 use Rattle.oc_base.specs.declared.format.Word.TheVariants.{W32, W64}
-use Rattle.oc_linking.specs.declared.terms.Binding.TheVariants.{Global}
-use Rattle.oc_linking.specs.declared.terms.Kind.TheVariants.{Code}
-use Rattle.oc_linking.specs.declared.terms.Value.TheVariants.{Place}
-use Rattle.oc_chains.specs.declared.field.Field.{Field}
-use Rattle.oc_chains.specs.Lists.{list_of}
-use Rattle.oc_neutral.specs.declared.section.Section.{Section}
-use Rattle.oc_neutral.specs.declared.symbol.Symbol.{Symbol}
-use Rattle.oc_neutral.specs.declared.reloc.Reloc.{Reloc}
-use Rattle.oc_neutral.specs.Invariants.{AreBytes, IsHinted}
+use Rattle.oc_linking.specs.{declared.terms.Binding.TheVariants.{Global}, declared.terms.Kind.TheVariants.{Code}, declared.terms.Value.TheVariants.{Place}}
+use Rattle.oc_chains.specs.{declared.field.Field.{Field}, Lists.{list_of}}
+use Rattle.oc_neutral.specs.{declared.section.Section.{Section}, declared.symbol.Symbol.{Symbol}, declared.reloc.Reloc.{Reloc}, Invariants.{AreBytes, IsHinted}}
 use Rattle.oc_neutral.specs.Objects.{Object}
 
 -- a section of code

@@ -1,20 +1,13 @@
 -- The words ask for few functions, and for a format for few sections.
 use Rattle.std.proofs.Common.{◌≡◌, ℕ, ◌≤◌, Bool, true, false, ◌&&◌, cond, List, [], ◌∷◌, Option, Some, None, Result, Ok, Err, refl, sym, ◌∙◌, ap, subst, arith}
-use Rattle.std.specs.Prelude.{bytes_eq, codes, length, nat_le}
-use Rattle.std.specs.List.{AllByRecursion}
-use Rattle.std.specs.Option.{option_map_or}
-use Rattle.std.specs.Str.Parse.{digits_value}
-use Rattle.std.proofs.lemmas.Bool.{and_parts, leb-true}
-use Rattle.std.proofs.lemmas.Option.{none-some, same_Some}
+use Rattle.std.specs.{Prelude.{bytes_eq, codes, length, nat_le}, List.{AllByRecursion}, Option.{option_map_or}, Str.Parse.{digits_value}}
+use Rattle.std.proofs.lemmas.{Bool.{and_parts, leb-true}, Option.{none-some, same_Some}}
 use Rattle.oc_base.specs.declared.format.Format.{Format}
 use Rattle.oc_linking.specs.Numbers.{first_upto}
 use Rattle.oc_neutral.specs.Families.{is_many}
 use Rattle.oc_names.specs.Wishes.{Wishes}
-use Rattle.oc_words.specs.declared.fault.WordCode.TheVariants.{BadNumber, BadTarget}
-use Rattle.oc_words.specs.declared.job.Job.{Job}
-use Rattle.oc_words.specs.declared.job.Job.TheVariants.{Make}
-use Rattle.oc_words.specs.Faults.{BadWord, bad}
-use Rattle.oc_words.specs.Formats.{plain_names, plain_named}
+use Rattle.oc_words.specs.{declared.fault.WordCode.TheVariants.{BadNumber, BadTarget}, declared.job.Job.{Job}, declared.job.Job.TheVariants.{Make}}
+use Rattle.oc_words.specs.{Faults.{BadWord, bad}, Formats.{plain_names, plain_named}}
 use Rattle.oc_words.specs.Jobs.{bad_at, conversion_of, converted, job_of, listing_of, made, made_for, making_of, operands, targets, wishes_of}
 use Rattle.oc_words.specs.Texts.{behind, is_decimal, looked_up}
 

@@ -1,19 +1,11 @@
 -- What is done of a job where memory ran out.
 use Rattle.std.proofs.Common.{◌≡◌, ℕ, inl, inr, List, Option, Result, Ok, Err, sym, subst, arith}
-use Rattle.oc_base.specs.declared.format.Format.{Format}
+use Rattle.oc_base.specs.{declared.format.Format.{Format}, declared.fault.Fault.{Fault}}
 use Rattle.oc_names.specs.Wishes.{Wishes}
-use Rattle.oc_words.specs.declared.job.Job.{Job}
-use Rattle.oc_words.specs.declared.job.Job.TheVariants.{Convert, Symbols, Make}
-use Rattle.oc_words.specs.Faults.{BadWord}
-use Rattle.oc_words.specs.Messages.{word_message_of}
-use Rattle.oc_runs.specs.States.{State}
-use Rattle.oc_runs.specs.Refusals.{IsJudged}
-use Rattle.objconv.specs.Refusals.{conversion_refusal, listing_refusal}
-use Rattle.objconv.specs.Conversions.{IsConversion}
-use Rattle.objconv.specs.Listings.{IsSymbols}
-use Rattle.objconv.specs.Making.{IsMaking}
+use Rattle.oc_words.specs.{declared.job.Job.{Job}, declared.job.Job.TheVariants.{Convert, Symbols, Make}, Faults.{BadWord}, Messages.{word_message_of}}
+use Rattle.oc_runs.specs.{States.{State}, Refusals.{IsJudged}}
+use Rattle.objconv.specs.{Refusals.{conversion_refusal, listing_refusal}, Conversions.{IsConversion}, Listings.{IsSymbols}, Making.{IsMaking}}
 use Rattle.objconv.specs.Runs.{IsUndone, DoesJob}
-use Rattle.oc_base.specs.declared.fault.Fault.{Fault}
 
 module _ (before after : State) (status : ℕ) where
   -- the job is that of the words

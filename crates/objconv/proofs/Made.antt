@@ -1,9 +1,7 @@
 -- The conversion of what was made.
 use Rattle.std.proofs.Common.{◌≡◌, ℕ, ◌≤◌, false, List, length, Some, None, sym, ◌∙◌, ap, subst}
 use Rattle.std.proofs.lemmas.Option.{none-some}
-use Rattle.oc_base.specs.declared.fault.Fault.{Fault}
-use Rattle.oc_base.specs.declared.format.Format.{Format}
-use Rattle.oc_base.specs.Formats.{word_for}
+use Rattle.oc_base.specs.{declared.fault.Fault.{Fault}, declared.format.Format.{Format}, Formats.{word_for}}
 use Rattle.oc_neutral.specs.Families.{is_many}
 use Rattle.oc_names.specs.Wishes.{Wishes, no_wishes}
 use Rattle.oc_made.specs.Files.{made_bytes}

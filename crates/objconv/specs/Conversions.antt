@@ -1,14 +1,11 @@
 -- What a conversion does, by its status (our profile).
-use Rattle.std.specs.Prelude.{◌≡◌, ℕ, List, Option, Some, None}
-use Rattle.std.specs.Option.{option_map, IsSomeAnd}
+use Rattle.std.specs.{Prelude.{◌≡◌, ℕ, List, Option, Some, None}, Option.{option_map, IsSomeAnd}}
 use Rattle.oc_base.specs.declared.format.Format.{Format}
 use Rattle.oc_names.specs.Wishes.{Wishes}
-use Rattle.oc_outside.specs.Causes.{IsSteady}
-use Rattle.oc_outside.specs.Held.{Held, file_of, with_file, HasPart}
+use Rattle.oc_outside.specs.{Causes.{IsSteady}, Held.{Held, file_of, with_file, HasPart}}
 use Rattle.oc_convert.specs.Dispatched.{IsDispatched}
 use Rattle.oc_dispatch.specs.Built.{built}
-use Rattle.oc_runs.specs.States.{State}
-use Rattle.oc_runs.specs.Refusals.{HasRefusal, IsExact, IsJudged}
+use Rattle.oc_runs.specs.{States.{State}, Refusals.{HasRefusal, IsExact, IsJudged}}
 use Rattle.objconv.specs.Refusals.{conversion_refusal}
 
 module _ (to : Format) (wishes : Wishes) (input : List ℕ) where

@@ -1,14 +1,10 @@
 -- What a listing of symbols does, by its status (our profile).
-use Rattle.std.specs.Prelude.{◌≡◌, ℕ, List, Option, Some, None}
-use Rattle.std.specs.Option.{IsSomeAnd}
+use Rattle.std.specs.{Prelude.{◌≡◌, ℕ, List, Option, Some, None}, Option.{IsSomeAnd}}
 use Rattle.oc_dump.specs.Lines.{symbol_lines_of}
 use Rattle.oc_neutral.specs.Objects.{Object}
-use Rattle.oc_outside.specs.Causes.{IsSteady}
-use Rattle.oc_outside.specs.Held.{Held, file_of}
-use Rattle.oc_outside.specs.Texts.{grown, TakesPrefix}
+use Rattle.oc_outside.specs.{Causes.{IsSteady}, Held.{Held, file_of}, Texts.{grown, TakesPrefix}}
 use Rattle.oc_dispatch.specs.Built.{IsRead}
-use Rattle.oc_runs.specs.States.{State}
-use Rattle.oc_runs.specs.Refusals.{HasRefusal, IsExact, IsJudged}
+use Rattle.oc_runs.specs.{States.{State}, Refusals.{HasRefusal, IsExact, IsJudged}}
 use Rattle.objconv.specs.Refusals.{listing_refusal, none}
 
 -- the text is the lines of the symbols of the file's object, read with nothing kept that may be left out

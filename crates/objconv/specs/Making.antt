@@ -1,14 +1,8 @@
 -- What making an object does, by its status (our profile).
-use Rattle.std.specs.Prelude.{◌≡◌, ℕ, ◌*◌, ◌⊎◌, List, ◌++◌, codes, length, Option, Some, None}
-use Rattle.std.specs.Fmt.{decimal}
-use Rattle.std.specs.Option.{option_map}
-use Rattle.oc_base.specs.declared.fault.Fault.{Fault}
-use Rattle.oc_base.specs.declared.format.Format.{Format}
-use Rattle.oc_base.specs.Formats.{word_for}
+use Rattle.std.specs.{Prelude.{◌≡◌, ℕ, ◌*◌, ◌⊎◌, List, ◌++◌, codes, length, Option, Some, None}, Fmt.{decimal}, Option.{option_map}}
+use Rattle.oc_base.specs.{declared.fault.Fault.{Fault}, declared.format.Format.{Format}, Formats.{word_for}}
 use Rattle.oc_names.specs.Wishes.{no_wishes}
-use Rattle.oc_outside.specs.Causes.{IsSteady}
-use Rattle.oc_outside.specs.Held.{with_file, HasPart}
-use Rattle.oc_outside.specs.Texts.{grown, TakesPrefix}
+use Rattle.oc_outside.specs.{Causes.{IsSteady}, Held.{with_file, HasPart}, Texts.{grown, TakesPrefix}}
 use Rattle.oc_made.specs.Files.{made_bytes}
 use Rattle.oc_convert.specs.Dispatched.{IsDispatched}
 use Rattle.oc_dispatch.specs.Built.{built}

@@ -1,9 +1,7 @@
 -- The first refusal of the input of a job (our profile).
 use Rattle.std.specs.Prelude.{false, List, ℕ, Option}
-use Rattle.oc_base.specs.declared.fault.Fault.{Fault}
-use Rattle.oc_base.specs.declared.format.Format.{Format}
-use Rattle.oc_linking.specs.declared.terms.Keep.{Keep}
-use Rattle.oc_linking.specs.Numbers.{or_else}
+use Rattle.oc_base.specs.{declared.fault.Fault.{Fault}, declared.format.Format.{Format}}
+use Rattle.oc_linking.specs.{declared.terms.Keep.{Keep}, Numbers.{or_else}}
 use Rattle.oc_names.specs.Wishes.{Wishes}
 use Rattle.oc_convert.specs.Dispatched.{dispatch_refusal, reading_refusal}
 use Rattle.oc_dispatch.specs.Built.{built}

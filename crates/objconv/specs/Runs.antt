@@ -1,17 +1,11 @@
 -- What a run of the command does (our profile).
 use Rattle.std.specs.Prelude.{◌≡◌, ℕ, ◌<◌, ◌≤◌, ◌⊎◌, List, Option, Some, None, Result, Ok, Err}
 use Rattle.oc_outside.specs.Causes.{Rose}
-use Rattle.oc_words.specs.declared.job.Job.{Job}
-use Rattle.oc_words.specs.declared.job.Job.TheVariants.{Convert, Symbols, Make}
-use Rattle.oc_words.specs.Faults.{BadWord}
-use Rattle.oc_words.specs.Jobs.{job_of}
+use Rattle.oc_words.specs.{declared.job.Job.{Job}, declared.job.Job.TheVariants.{Convert, Symbols, Make}, Faults.{BadWord}, Jobs.{job_of}}
 use Rattle.oc_words.specs.Messages.{word_message_of}
 use Rattle.oc_runs.specs.Ends as ends
-use Rattle.oc_runs.specs.States.{State}
-use Rattle.oc_runs.specs.Texts.{Tells}
-use Rattle.objconv.specs.Conversions.{IsConversion}
-use Rattle.objconv.specs.Listings.{IsSymbols}
-use Rattle.objconv.specs.Making.{IsMaking}
+use Rattle.oc_runs.specs.{States.{State}, Texts.{Tells}}
+use Rattle.objconv.specs.{Conversions.{IsConversion}, Listings.{IsSymbols}, Making.{IsMaking}}
 
 -- ... what the words ask for
 

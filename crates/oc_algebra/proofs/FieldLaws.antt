@@ -3,14 +3,9 @@ use Rattle.std.proofs.Common.{◌≡◌, ℕ, ◌+◌, ◌<◌, ◌≤◌, refl,
 use Rattle.std.specs.Prelude.{ℤ, pos, negsuc, ◌+ℤ◌, ◌-ℤ◌}
 use borrow.Author.Differences.{ints}
 use Rattle.std.proofs.lemmas.Bool.Decides.{nat_tests}
-use Rattle.oc_base.specs.declared.format.Word.{Word}
-use Rattle.oc_base.specs.declared.format.Word.TheVariants.{W32, W64}
-use Rattle.oc_linking.specs.declared.terms.Width.{Width}
-use Rattle.oc_linking.specs.declared.terms.Width.TheVariants.{One, Two, Four, Eight}
-use Rattle.oc_linking.specs.Numbers.{modulus}
-use Rattle.oc_linking.specs.Fits.{span, half}
-use Rattle.oc_algebra.specs.Residues.{modulo, residue_of, reduced_number, is_signed_in}
-use Rattle.oc_algebra.specs.Fields.{extended, field_for, from_field_of, to_field_of, too_wide}
+use Rattle.oc_base.specs.{declared.format.Word.{Word}, declared.format.Word.TheVariants.{W32, W64}}
+use Rattle.oc_linking.specs.{declared.terms.Width.{Width}, declared.terms.Width.TheVariants.{One, Two, Four, Eight}, Numbers.{modulus}, Fits.{span, half}}
+use Rattle.oc_algebra.specs.{Residues.{modulo, residue_of, reduced_number, is_signed_in}, Fields.{extended, field_for, from_field_of, to_field_of, too_wide}}
 use Rattle.oc_algebra.specs.Promises.{Holds, Written, ReadAgain}
 use Rattle.oc_algebra.proofs.Laws.{residue_reduced, reduced_same}
 

@@ -1,20 +1,13 @@
 -- What a constant leaves in its field, beside the definitions of linking.
 use Rattle.std.proofs.Common.{◌≡◌, ℕ, zero, suc, ◌+◌, ◌-◌, ◌*◌, ◌/◌, ◌%◌, ◌^◌, ◌<◌, refl, arith, true, nat_lt}
 use Rattle.std.specs.Prelude.{ℤ}
-use Rattle.std.proofs.Math.Nat.{pow-suc}
-use Rattle.std.proofs.Math.Pow.{field, mod-mod-pow}
-use Rattle.std.proofs.lemmas.Nat.{pow-add}
+use Rattle.std.proofs.{Math.Nat.{pow-suc}, Math.Pow.{field, mod-mod-pow}}
+use Rattle.std.proofs.lemmas.{Nat.{pow-add}, Bool.Decides.{nat_tests}}
 use borrow.Author.Differences.{ints}
-use Rattle.std.proofs.lemmas.Bool.Decides.{nat_tests}
-use Rattle.oc_base.specs.declared.format.Word.{Word}
-use Rattle.oc_base.specs.declared.format.Word.TheVariants.{W32, W64}
-use Rattle.oc_linking.specs.declared.terms.Width.{Width}
-use Rattle.oc_linking.specs.declared.terms.Width.TheVariants.{One, Two, Four, Eight}
-use Rattle.oc_linking.specs.declared.terms.Check.{Check}
+use Rattle.oc_base.specs.{declared.format.Word.{Word}, declared.format.Word.TheVariants.{W32, W64}}
+use Rattle.oc_linking.specs.{declared.terms.Width.{Width}, declared.terms.Width.TheVariants.{One, Two, Four, Eight}, declared.terms.Check.{Check}}
 use Rattle.oc_linking.specs.Fits.{bytes_of}
-use Rattle.oc_algebra.specs.Residues.{residue_of, reduced_number}
-use Rattle.oc_algebra.specs.Folds.{low_of}
-use Rattle.oc_algebra.specs.Promises.{IsStored, SignedAgrees}
+use Rattle.oc_algebra.specs.{Residues.{residue_of, reduced_number}, Folds.{low_of}, Promises.{IsStored, SignedAgrees}}
 
 -- powers of 256 are powers of two
 pow-256 : (k : ℕ) → 256 ^ k ≡ 2 ^ (8 * k)

@@ -3,11 +3,9 @@ use Rattle.std.proofs.Common.{◌≡◌, ℕ, ◌+◌, ◌/◌, ◌%◌, ◌<◌
 use Rattle.std.specs.Prelude.{ℤ, pos, ◌+ℤ◌, ◌-ℤ◌, ◌*ℤ◌}
 use borrow.Author.Differences.{up, down, ints}
 use Rattle.std.proofs.lemmas.Bool.Decides.{nat_tests}
-use Rattle.oc_base.specs.declared.format.Word.{Word}
-use Rattle.oc_base.specs.declared.format.Word.TheVariants.{W32, W64}
+use Rattle.oc_base.specs.{declared.format.Word.{Word}, declared.format.Word.TheVariants.{W32, W64}}
 use Rattle.oc_linking.specs.Numbers.{modulus, minus}
-use Rattle.oc_algebra.specs.Residues.{residue_of, reduced_number, signed_of, half_modulus, is_signed_in}
-use Rattle.oc_algebra.specs.Promises.{Represents}
+use Rattle.oc_algebra.specs.{Residues.{residue_of, reduced_number, signed_of, half_modulus, is_signed_in}, Promises.{Represents}}
 
 -- the residue of a sum
 pub residue_add : (w : Word) (a b : ℤ) → residue_of w (a +ℤ b) ≡ (residue_of w a + residue_of w b) % modulus w

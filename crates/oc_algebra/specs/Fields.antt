@@ -1,10 +1,8 @@
 -- Addends and the fields that hold them (our profile, addends in place).
 use Rattle.std.specs.Prelude.{ℕ, ◌%◌, if◌then◌else◌, ℤ, ◌+ℤ◌, ◌-ℤ◌, Result, Ok, Err}
 use Rattle.oc_base.specs.declared.format.Word.{Word}
-use Rattle.oc_linking.specs.declared.terms.Width.{Width}
-use Rattle.oc_linking.specs.Fits.{span, half}
-use Rattle.oc_algebra.specs.declared.fields.AddendTooWide.{AddendTooWide}
-use Rattle.oc_algebra.specs.Residues.{modulo, centred, is_signed_in, reduced_number}
+use Rattle.oc_linking.specs.{declared.terms.Width.{Width}, Fits.{span, half}}
+use Rattle.oc_algebra.specs.{declared.fields.AddendTooWide.{AddendTooWide}, Residues.{modulo, centred, is_signed_in, reduced_number}}
 
 -- the only refusal
 abbrev pub too_wide : AddendTooWide

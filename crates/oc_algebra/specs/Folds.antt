@@ -1,12 +1,8 @@
 -- Constants in fields (our profile, linking).
 use Rattle.std.specs.Prelude.{ℕ, ◌%◌, if◌then◌else◌, ℤ, Result, Ok, Err}
 use Rattle.oc_base.specs.declared.format.Word.{Word}
-use Rattle.oc_linking.specs.declared.terms.Width.{Width}
-use Rattle.oc_linking.specs.declared.terms.Check.{Check}
-use Rattle.oc_linking.specs.Fits.{span, fits}
-use Rattle.oc_algebra.specs.declared.fields.AddendTooWide.{AddendTooWide}
-use Rattle.oc_algebra.specs.Fields.{too_wide}
-use Rattle.oc_algebra.specs.Residues.{residue_of}
+use Rattle.oc_linking.specs.{declared.terms.Width.{Width}, declared.terms.Check.{Check}, Fits.{span, fits}}
+use Rattle.oc_algebra.specs.{declared.fields.AddendTooWide.{AddendTooWide}, Fields.{too_wide}, Residues.{residue_of}}
 
 -- what a field stores of a residue: the number of its low bytes
 abbrev pub low_of : Width → ℕ → ℕ

@@ -1,12 +1,8 @@
 -- What fields and addends promise each other (our profile, addends in place).
 use Rattle.std.specs.Prelude.{◌≡◌, ℕ, ◌/◌, ◌%◌, ◌^◌, ◌<◌, ◌≤◌, ℤ, ◌+ℤ◌, ◌*ℤ◌, ◌≤ℤ◌, ◌<ℤ◌, pos, neg_ℤ, Some, Ok, MatchResult}
 use Rattle.oc_base.specs.declared.format.Word.{Word}
-use Rattle.oc_linking.specs.declared.terms.Width.{Width}
-use Rattle.oc_linking.specs.declared.terms.Check.{Check}
-use Rattle.oc_linking.specs.Numbers.{modulus}
-use Rattle.oc_linking.specs.Fits.{span, half, bytes_of, stored, fits_signed}
-use Rattle.oc_algebra.specs.Residues.{half_modulus, residue_of, reduced_number, is_signed_in}
-use Rattle.oc_algebra.specs.Fields.{from_field_of, to_field_of}
+use Rattle.oc_linking.specs.{declared.terms.Width.{Width}, declared.terms.Check.{Check}, Numbers.{modulus}, Fits.{span, half, bytes_of, stored, fits_signed}}
+use Rattle.oc_algebra.specs.{Residues.{half_modulus, residue_of, reduced_number, is_signed_in}, Fields.{from_field_of, to_field_of}}
 
 -- z is the representative of n: it lies from -2^(W-1) to 2^(W-1) - 1, and n is z and a multiple of 2^W
 pub record Represents (w : Word) (n z : ℤ) : Type 0 where

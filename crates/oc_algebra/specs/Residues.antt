@@ -1,8 +1,7 @@
 -- Signed numbers and their residues modulo 2^32 and 2^64 (our profile, values of relocations).
 use Rattle.std.specs.Prelude.{ℕ, ◌+◌, ◌-◌, ◌%◌, ◌^◌, Bool, nat_lt, if◌then◌else◌, ℤ, pos, negsuc}
 use borrow.Author.Differences.{up, down}
-use Rattle.oc_base.specs.declared.format.Word.{Word}
-use Rattle.oc_base.specs.declared.format.Word.TheVariants.{W32, W64}
+use Rattle.oc_base.specs.{declared.format.Word.{Word}, declared.format.Word.TheVariants.{W32, W64}}
 use Rattle.oc_linking.specs.Numbers.{modulus}
 
 -- half of the modulus

@@ -1,11 +1,8 @@
 -- The tables of the definitions, at one entry of each kind.
 use Rattle.std.proofs.Common.{◌≡◌, refl}
-use Rattle.oc_base.specs.declared.fault.Class.TheVariants.{Refused, Malformed, Limit}
+use Rattle.oc_base.specs.{declared.fault.Class.TheVariants.{Refused, Malformed, Limit}, declared.format.Format.TheVariants.{Omf, Mac64}}
+use Rattle.oc_base.specs.{declared.format.Word.TheVariants.{W32, W64}, Codes.{class_of}, Formats.{word_for}}
 use Rattle.oc_base.specs.declared.code.Code.TheVariants as code
-use Rattle.oc_base.specs.declared.format.Format.TheVariants.{Omf, Mac64}
-use Rattle.oc_base.specs.declared.format.Word.TheVariants.{W32, W64}
-use Rattle.oc_base.specs.Codes.{class_of}
-use Rattle.oc_base.specs.Formats.{word_for}
 
 word_for-Omf : word_for Omf ≡ W32
 word_for-Omf = refl

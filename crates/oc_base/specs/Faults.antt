@@ -1,7 +1,5 @@
 -- Faults at the structure under examination (our profile).
-use Rattle.oc_base.specs.declared.code.Code.{Code}
-use Rattle.oc_base.specs.declared.fault.Fault.{Fault}
-use Rattle.oc_base.specs.declared.fault.Spot.{Spot}
+use Rattle.oc_base.specs.{declared.code.Code.{Code}, declared.fault.Fault.{Fault}, declared.fault.Spot.{Spot}}
 
 -- the fault of a structure with a code
 abbrev pub fault_at : Spot → Code → Fault

@@ -1,12 +1,8 @@
 -- The texts of refusals (our profile).
-use Rattle.std.specs.Prelude.{ℕ, List, ◌++◌, codes}
-use Rattle.std.specs.Fmt.{decimal}
-use Rattle.oc_base.specs.declared.fault.Phase.{Phase}
+use Rattle.std.specs.{Prelude.{ℕ, List, ◌++◌, codes}, Fmt.{decimal}}
+use Rattle.oc_base.specs.{declared.fault.Phase.{Phase}, declared.fault.Class.{Class}, declared.fault.Class.TheVariants.{Malformed, Refused, Limit}}
+use Rattle.oc_base.specs.{declared.fault.Fault.{Fault}, Codes.{class_of, code_text}}
 use Rattle.oc_base.specs.declared.fault.Phase.TheVariants as phase
-use Rattle.oc_base.specs.declared.fault.Class.{Class}
-use Rattle.oc_base.specs.declared.fault.Class.TheVariants.{Malformed, Refused, Limit}
-use Rattle.oc_base.specs.declared.fault.Fault.{Fault}
-use Rattle.oc_base.specs.Codes.{class_of, code_text}
 
 -- the word for a class
 abbrev pub class_text : Class → List ℕ

@@ -1,7 +1,6 @@
 -- Why a step stops (our profile).
 use Rattle.std.specs.Prelude.{◌≡◌, Option, Some}
-use Rattle.oc_base.specs.declared.fault.Fault.{Fault}
-use Rattle.oc_base.specs.declared.stop.Stop.{Stop}
+use Rattle.oc_base.specs.{declared.fault.Fault.{Fault}, declared.stop.Stop.{Stop}}
 use Rattle.oc_base.specs.declared.stop.Stop.TheVariants as stop
 
 -- the fault is the first; lack of memory needs no cause

@@ -1,7 +1,6 @@
 -- The layout of a string table in which names share their tails (our profile's canonical ELF, COFF and Mach-O files).
 use Rattle.std.specs.Prelude.{ℕ, ◌+◌, ◌-◌, Bool, not, ◌&&◌, nat_lt, nat_eq, if◌then◌else◌, List, [], ◌∷◌, ◌++◌, length, fold, flat_map, Option, Some, None}
-use Rattle.std.specs.List.{list_any, ends_with}
-use Rattle.std.specs.Cmp.Lexicographic.{pointwise}
+use Rattle.std.specs.{List.{list_any, ends_with}, Cmp.Lexicographic.{pointwise}}
 
 -- the name is the tail of the text, or the text itself
 abbrev pub ends : List ℕ → List ℕ → Bool

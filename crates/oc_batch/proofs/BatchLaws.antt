@@ -1,24 +1,17 @@
 -- What a batch does, from what was done.
 use Rattle.std.proofs.Common.{◌≡◌, ℕ, ◌<◌, ◌≤◌, ◌⊎◌, inl, inr, Bool, true, false, cond, eqb, List, [], ◌∷◌, length, Option, Some, None, Result, Ok, Err, refl, sym, ap, subst, ◌∙◌, arith}
-use Rattle.std.specs.Prelude.{slice_get, nat_lt, IfErr, IfOk}
-use Rattle.std.specs.Option.{ForSome, IsSomeAnd}
+use Rattle.std.specs.{Prelude.{slice_get, nat_lt, IfErr, IfOk}, Option.{ForSome, IsSomeAnd}}
 use Rattle.std.proofs.lemmas.Bool.{ltb-true}
 use Rattle.oc_base.specs.declared.fault.Fault.{Fault}
-use Rattle.oc_outside.specs.Causes.{Rose}
-use Rattle.oc_outside.specs.Held.{Held, file_of}
-use Rattle.oc_outside.specs.Reading.{IsAbsent}
+use Rattle.oc_outside.specs.{Causes.{Rose}, Held.{Held, file_of}, Reading.{IsAbsent}}
 use Rattle.oc_runs.proofs.Refused.{some_and}
-use Rattle.oc_runs.specs.Refusals.{length_refusal, too_long}
+use Rattle.oc_runs.specs.{Refusals.{length_refusal, too_long}, States.{State}, declared.input.InputFault.{InputFault}}
 use Rattle.oc_runs.specs.Reports as reports
-use Rattle.oc_runs.specs.States.{State}
-use Rattle.oc_runs.specs.declared.input.InputFault.{InputFault}
 use Rattle.oc_runs.specs.declared.input.InputFault.TheVariants as input
-use Rattle.oc_batch.specs.declared.fault.ListFault.{ListFault}
-use Rattle.oc_batch.specs.declared.fault.ListFault.TheVariants as fault
-use Rattle.oc_batch.specs.Batches.{IsWordless, IsStatus, IsBytesStatus, HasJobs, RefusesList, IsBatchOf, IsBatch}
-use Rattle.oc_batch.specs.Faults.{Explains, HoldsOf, IsTold, fault_of, status_of}
-use Rattle.oc_batch.specs.Lists.{IsLong, IsNoText, IsText, jobs_in}
+use Rattle.oc_batch.specs.{declared.fault.ListFault.{ListFault}, Batches.{IsWordless, IsStatus, IsBytesStatus, HasJobs, RefusesList, IsBatchOf, IsBatch}}
+use Rattle.oc_batch.specs.{Faults.{Explains, HoldsOf, IsTold, fault_of, status_of}, Lists.{IsLong, IsNoText, IsText, jobs_in}}
 use Rattle.oc_batch.specs.Runs.{HasRunAll, HasStopped, NoCountFalls, AreRun}
+use Rattle.oc_batch.specs.declared.fault.ListFault.TheVariants as fault
 use Rattle.oc_batch.proofs.RunLaws.{status_named, counts_all, counts_on, counts_run}
 
 -- ... the words

@@ -1,8 +1,7 @@
 -- The words of a line, and the jobs of a text, one piece after the other.
 use Rattle.std.proofs.Common.{◌≡◌, ℕ, ◌+◌, ◌<◌, ◌≤◌, Bool, true, false, cond, zero, suc, get_or, List, [], ◌∷◌, ◌++◌, length, map, refl, sym, ap, subst, ◌∙◌, arith}
 use Rattle.std.specs.List.{filter, slice_split, onto_first, AllByRecursion}
-use Rattle.std.proofs.lemmas.List.{map-append}
-use Rattle.std.proofs.lemmas.List.Elements.{filter-append}
+use Rattle.std.proofs.lemmas.{List.{map-append}, List.Elements.{filter-append}}
 
 -- what passes of pieces, with one more piece
 pub pieces_more : {X Y : Type 0} (p : Y → Bool) (f : X → Y) (xs : List X) (x : X) → filter p (map f (xs ++ x ∷ [])) ≡ filter p (map f xs) ++ filter p (f x ∷ [])

@@ -1,10 +1,7 @@
 -- The definitions of a list and of a line, at texts that the command's description speaks of.
 use Rattle.std.proofs.Common.{◌≡◌, [], ◌∷◌, refl}
-use Rattle.std.specs.Prelude.{codes}
-use Rattle.std.specs.Fmt.{digits}
-use Rattle.oc_batch.specs.Lists.{jobs_in}
-use Rattle.oc_batch.specs.Runs.{batch_status}
-use Rattle.oc_batch.specs.Texts.{job_line}
+use Rattle.std.specs.{Prelude.{codes}, Fmt.{digits}}
+use Rattle.oc_batch.specs.{Lists.{jobs_in}, Runs.{batch_status}, Texts.{job_line}}
 
 jobs_in-none : jobs_in [] ≡ []
 unfolding jobs_in

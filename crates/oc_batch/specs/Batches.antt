@@ -1,17 +1,11 @@
 -- What a batch does, by its status (our profile).
 use Rattle.std.specs.Prelude.{◌≡◌, ℕ, ◌<◌, ◌⊎◌, List, [], ◌∷◌, Option, Some}
-use Rattle.oc_outside.specs.Causes.{Rose}
-use Rattle.oc_outside.specs.Held.{Held, file_of}
-use Rattle.oc_outside.specs.Reading.{IsAbsent}
+use Rattle.oc_outside.specs.{Causes.{Rose}, Held.{Held, file_of}, Reading.{IsAbsent}}
 use Rattle.oc_runs.specs.Ends as ends
-use Rattle.oc_runs.specs.States.{State}
-use Rattle.oc_runs.specs.Texts.{Tells}
-use Rattle.oc_batch.specs.declared.fault.ListFault.{ListFault}
+use Rattle.oc_runs.specs.{States.{State}, Texts.{Tells}}
+use Rattle.oc_batch.specs.{declared.fault.ListFault.{ListFault}, Faults.{Explains, status_of, text_of}, Lists.{IsLong, IsNoText, IsText, jobs_in}}
+use Rattle.oc_batch.specs.{Runs.{HasRunAll, HasStopped, NoCountFalls}, Texts.{words_text}}
 use Rattle.oc_batch.specs.declared.fault.ListFault.TheVariants as fault
-use Rattle.oc_batch.specs.Faults.{Explains, status_of, text_of}
-use Rattle.oc_batch.specs.Lists.{IsLong, IsNoText, IsText, jobs_in}
-use Rattle.oc_batch.specs.Runs.{HasRunAll, HasStopped, NoCountFalls}
-use Rattle.oc_batch.specs.Texts.{words_text}
 
 -- the words are not one name: that was reported, and nothing was read
 abbrev pub IsWordless : State → ℕ → State → Type 0

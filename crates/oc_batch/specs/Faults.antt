@@ -1,18 +1,11 @@
 -- Why no job of a list was run, and what is reported of it (our profile).
-use Rattle.std.specs.Prelude.{◌≡◌, ℕ, ◌⊎◌, List, Option, Some}
-use Rattle.std.specs.Option.{IsSomeAnd}
+use Rattle.std.specs.{Prelude.{◌≡◌, ℕ, ◌⊎◌, List, Option, Some}, Option.{IsSomeAnd}}
 use Rattle.oc_base.specs.Messages.{message_of}
-use Rattle.oc_outside.specs.Causes.{Rose}
-use Rattle.oc_outside.specs.Held.{Held, file_of}
-use Rattle.oc_outside.specs.Reading.{IsAbsent}
-use Rattle.oc_runs.specs.declared.input.InputFault.{InputFault}
+use Rattle.oc_outside.specs.{Causes.{Rose}, Held.{Held, file_of}, Reading.{IsAbsent}}
+use Rattle.oc_runs.specs.{declared.input.InputFault.{InputFault}, Refusals.{too_long}, Texts.{Tells, input_text, memory_text}}
 use Rattle.oc_runs.specs.declared.input.InputFault.TheVariants as input
-use Rattle.oc_runs.specs.Refusals.{too_long}
-use Rattle.oc_runs.specs.Texts.{Tells, input_text, memory_text}
-use Rattle.oc_batch.specs.declared.fault.ListFault.{ListFault}
+use Rattle.oc_batch.specs.{declared.fault.ListFault.{ListFault}, Lists.{IsLong, IsNoText}, Texts.{list_text}}
 use Rattle.oc_batch.specs.declared.fault.ListFault.TheVariants as fault
-use Rattle.oc_batch.specs.Lists.{IsLong, IsNoText}
-use Rattle.oc_batch.specs.Texts.{list_text}
 
 -- the fault of a list that gave nothing as an input: the one refusal of its bytes is their number
 abbrev pub fault_of : InputFault → ListFault

@@ -1,7 +1,5 @@
 -- The text of a list, and its jobs (our profile).
-use Rattle.std.specs.Prelude.{◌≤◌, ◌<◌, ℕ, Bool, not, nat_eq, List, length, map, filter}
-use Rattle.std.specs.List.{slice_split}
-use Rattle.std.specs.Str.{IsUtf8}
+use Rattle.std.specs.{Prelude.{◌≤◌, ◌<◌, ℕ, Bool, not, nat_eq, List, length, map, filter}, List.{slice_split}, Str.{IsUtf8}}
 
 -- something is in the list
 abbrev pub is_filled : {X : Type 0} → List X → Bool

@@ -1,7 +1,6 @@
 -- What a run of several jobs does (our profile).
 use Rattle.std.specs.Prelude.{◌≡◌, ℕ, ◌+◌, ◌≤◌, ◌⊎◌, nat_eq, if◌then◌else◌, List, [], ◌∷◌, ◌++◌, length}
-use Rattle.oc_outside.specs.Causes.{Rose}
-use Rattle.oc_outside.specs.Texts.{grown, TakesPrefix}
+use Rattle.oc_outside.specs.{Causes.{Rose}, Texts.{grown, TakesPrefix}}
 use Rattle.oc_runs.specs.States.{State}
 use Rattle.objconv.specs.Runs.{IsRun}
 use Rattle.oc_batch.specs.Texts.{job_line}

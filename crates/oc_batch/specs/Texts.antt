@@ -1,6 +1,5 @@
 -- The texts of a batch (our profile).
-use Rattle.std.specs.Prelude.{ℕ, List, ◌++◌, codes}
-use Rattle.std.specs.Fmt.{decimal}
+use Rattle.std.specs.{Prelude.{ℕ, List, ◌++◌, codes}, Fmt.{decimal}}
 
 -- the text for words that are not one name
 unfoldable pub words_text : List ℕ

@@ -1,92 +1,53 @@
 -- The canonical COFF file of what is seen of an object is that of the object.
 use Rattle.std.proofs.Common.{◌≡◌, ◌≢◌, ℕ, zero, suc, ◌+◌, ◌*◌, ◌<◌, ◌≤◌, Bool, true, false, cond, not, ◌&&◌, List, [], ◌∷◌, ◌++◌, length, map, min, Option, Some, None, inl, inr, refl, sym, ◌∙◌, ap, arith, append-nil}
 use mathlib.Core.Path.{fun_ext}
-use Rattle.std.specs.Prelude.{slice_get, filter, flat_map, nat_eq, decimal}
-use Rattle.std.specs.List.{AllByRecursion, enumerate_from, range_with_len}
+use Rattle.std.specs.{Prelude.{slice_get, filter, flat_map, nat_eq, decimal}, List.{AllByRecursion, enumerate_from, range_with_len}}
 use Rattle.std.specs.Option.{option_map, option_map_or, option_and_then, unwrap_or}
-use Rattle.std.proofs.lemmas.Bool.{true≢false, cases_lt, and_parts, false_from_ne_true}
-use Rattle.std.proofs.lemmas.List.{length-map}
-use Rattle.std.proofs.lemmas.List.FromFn.{length-enumerate_from}
+use Rattle.std.proofs.lemmas.{Bool.{true≢false, cases_lt, and_parts, false_from_ne_true}, List.{length-map}, List.FromFn.{length-enumerate_from}}
 use Rattle.std.proofs.lemmas.Option.{none-some, same_Some, slice_get_within}
-use Rattle.oc_base.specs.Numbers.{bytes_of_number}
-use Rattle.oc_base.specs.Strings.{table_place, table_text}
-use Rattle.oc_linking.specs.declared.terms.Mark.{Mark}
-use Rattle.oc_linking.specs.declared.terms.Mark.TheVariants.{NoType, Function, Object as ObjectMark}
-use Rattle.oc_linking.specs.declared.terms.Hint.TheVariants.{Call}
-use Rattle.oc_linking.specs.declared.terms.Value.{Value}
-use Rattle.oc_linking.specs.declared.terms.Fallback.{Fallback}
+use Rattle.oc_base.specs.{Numbers.{bytes_of_number}, Strings.{table_place, table_text}}
+use Rattle.oc_linking.specs.{declared.terms.Mark.{Mark}, declared.terms.Mark.TheVariants.{NoType, Function, Object as ObjectMark}}
+use Rattle.oc_linking.specs.{declared.terms.Hint.TheVariants.{Call}, declared.terms.Value.{Value}, declared.terms.Fallback.{Fallback}}
+use Rattle.oc_linking.specs.{declared.terms.Binding.{Binding}, declared.terms.Binding.TheVariants.{Local, Global, Undefined, Common, Weak}}
+use Rattle.oc_linking.specs.{declared.terms.Patch.{Patch}, Images.{overlay}, Parts.{is_local}}
 use Rattle.oc_linking.specs.declared.terms.Fallback.TheVariants as fallback
-use Rattle.oc_linking.specs.declared.terms.Binding.{Binding}
-use Rattle.oc_linking.specs.declared.terms.Binding.TheVariants.{Local, Global, Undefined, Common, Weak}
-use Rattle.oc_linking.specs.declared.terms.Patch.{Patch}
-use Rattle.oc_linking.specs.Images.{overlay}
-use Rattle.oc_linking.specs.Parts.{is_local}
 use Rattle.oc_algebra.specs.Fields.{to_field_of}
 use Rattle.oc_chains.specs.declared.field.Field as chains
 use Rattle.oc_chains.specs.Lists.{list_of}
-use Rattle.oc_neutral.specs.declared.section.Section.{Section}
-use Rattle.oc_neutral.specs.declared.symbol.Symbol.{Symbol}
-use Rattle.oc_neutral.specs.declared.reloc.Reloc.{Reloc}
-use Rattle.oc_neutral.specs.declared.reloc.Target.{Target}
-use Rattle.oc_neutral.specs.declared.reloc.Target.TheVariants as target
-use Rattle.oc_neutral.specs.declared.coff.TheConstants.{STRINGS_HEAD}
-use Rattle.oc_neutral.specs.Objects.{Object, reloc_at}
-use Rattle.oc_neutral.specs.Faces.{key_of}
+use Rattle.oc_neutral.specs.{declared.section.Section.{Section}, declared.symbol.Symbol.{Symbol}, declared.reloc.Reloc.{Reloc}, declared.reloc.Target.{Target}}
+use Rattle.oc_neutral.specs.{declared.coff.TheConstants.{STRINGS_HEAD}, Objects.{Object, reloc_at}, Faces.{key_of}}
 use Rattle.oc_neutral.specs.Coff.Strings.{is_long, is_tabled, has_default, default_name, defaults_of, names_where, symbol_names, key_strings, coff_strings, string_offset}
-use Rattle.oc_target.specs.CoffMeets.{strings_of, offset_of}
-use Rattle.oc_neutral.specs.Families.{family_of}
-use Rattle.oc_neutral.specs.HomeNames.{output_names}
-use Rattle.oc_neutral.specs.KeySymbols.{global_place, group_at, is_key_name, is_key_at, is_key}
-use Rattle.oc_shows.specs.Manners.{coff_manner, coff_mark}
-use Rattle.oc_target.specs.Meets.{HasKeySymbol}
-use Rattle.oc_neutral.specs.Normal.{Place}
-use Rattle.oc_neutral.specs.Rows.{Row, shift_of, same_hint}
-use Rattle.oc_neutral.specs.RelocTables.{rows_of}
-use Rattle.oc_shows.specs.Seen.{new_position, seen, seen_section, seen_symbol, seen_binding, seen_fallback, seen_field, seen_reloc, seen_target}
-use Rattle.oc_neutral.specs.Spelling.{written_row}
-use Rattle.oc_shows.specs.SymbolLines as table
-use Rattle.oc_shows.specs.SymbolLines.{silent, one, coff_lines, coff_section_lines, coff_entries, needs_default, is_weak_with, is_outer, local_lines}
-use Rattle.oc_neutral.specs.WrittenSymbols.{is_written}
+use Rattle.oc_neutral.specs.{Families.{family_of}, HomeNames.{output_names}, KeySymbols.{global_place, group_at, is_key_name, is_key_at, is_key}}
+use Rattle.oc_neutral.specs.{Normal.{Place}, Rows.{Row, shift_of, same_hint}, RelocTables.{rows_of}, Spelling.{written_row}, WrittenSymbols.{is_written}}
 use Rattle.oc_neutral.specs.Bindings.{is_written_by}
-use Rattle.oc_target.proofs.MeetsConditions.{own_names}
-use Rattle.oc_target.proofs.MeetsRelocs.{normal_of}
-use Rattle.oc_shows.proofs.SeenAlike.{relocs_same, seen_local, stands}
-use Rattle.oc_shows.proofs.SeenLines.{IsShown}
-use Rattle.oc_target.proofs.SeenReady.{IsReady, coff_ready}
+use Rattle.oc_neutral.specs.declared.reloc.Target.TheVariants as target
+use Rattle.oc_target.specs.{CoffMeets.{strings_of, offset_of}, Meets.{HasKeySymbol}}
+use Rattle.oc_shows.specs.Manners.{coff_manner, coff_mark}
+use Rattle.oc_shows.specs.Seen.{new_position, seen, seen_section, seen_symbol, seen_binding, seen_fallback, seen_field, seen_reloc, seen_target}
+use Rattle.oc_shows.specs.SymbolLines.{silent, one, coff_lines, coff_section_lines, coff_entries, needs_default, is_weak_with, is_outer, local_lines}
+use Rattle.oc_shows.specs.SymbolLines as table
+use Rattle.oc_target.proofs.{MeetsConditions.{own_names}, MeetsRelocs.{normal_of}, SeenReady.{IsReady, coff_ready}}
+use Rattle.oc_shows.proofs.{SeenAlike.{relocs_same, seen_local, stands}, SeenLines.{IsShown}, FoundLaws.{found_in}}
 use Rattle.oc_shelf.specs.Writing.Parts.{Laid, laid, laid_end, behind, joined, place_where}
 use Rattle.oc_shelf.proofs.WritingLaws.MemberLemmas.{map-map, map-alike}
 use Rattle.oc_coff.specs.declared.constants.TheConstants.{IMAGE_SYM_CLASS_STATIC, IMAGE_COMDAT_SELECT_ANY, IMAGE_COMDAT_SELECT_ASSOCIATIVE, IMAGE_WEAK_EXTERN_SEARCH_ALIAS, OVERFLOWED_COUNT, IMAGE_REL_I386_ABSOLUTE}
-use Rattle.oc_coff.specs.declared.section_header.TheConstants.{SECTION_HEADER_SIZE}
-use Rattle.oc_coff.specs.declared.relocation.TheConstants.{RELOCATION_SIZE}
-use Rattle.oc_coff.specs.declared.file_header.FileHeader.{FileHeader}
-use Rattle.oc_coff.specs.declared.section_header.SectionHeader.{SectionHeader}
-use Rattle.oc_coff.specs.declared.section_aux.SectionAux.{SectionAux}
-use Rattle.oc_coff.specs.declared.weak_aux.WeakAux.{WeakAux}
-use Rattle.oc_coff.specs.declared.relocation.Relocation.{Relocation}
-use Rattle.oc_coff.specs.FileHeader.{file_header_bytes}
-use Rattle.oc_coff.specs.SectionHeader.{section_header_bytes}
-use Rattle.oc_coff.specs.SymbolEntry.{symbol_bytes}
-use Rattle.oc_coff.specs.SectionAux.{section_aux_bytes}
-use Rattle.oc_coff.specs.WeakAux.{weak_aux_bytes}
-use Rattle.oc_coff.specs.Relocation.{relocation_bytes}
-use Rattle.oc_coff.specs.declared.form.CoffForm.{CoffForm}
-use Rattle.oc_coff.specs.declared.form.CoffForm.TheVariants.{Usual32, Usual64, Big32, Big64}
-use Rattle.oc_coff.specs.Forms.{format_of, word_of, shape_of, symbol_size}
-use Rattle.oc_coff.specs.Names.{padded}
+use Rattle.oc_coff.specs.{declared.section_header.TheConstants.{SECTION_HEADER_SIZE}, declared.relocation.TheConstants.{RELOCATION_SIZE}}
+use Rattle.oc_coff.specs.{declared.file_header.FileHeader.{FileHeader}, declared.section_header.SectionHeader.{SectionHeader}}
+use Rattle.oc_coff.specs.{declared.section_aux.SectionAux.{SectionAux}, declared.weak_aux.WeakAux.{WeakAux}, declared.relocation.Relocation.{Relocation}}
+use Rattle.oc_coff.specs.{FileHeader.{file_header_bytes}, SectionHeader.{section_header_bytes}, SymbolEntry.{symbol_bytes}, SectionAux.{section_aux_bytes}}
+use Rattle.oc_coff.specs.{WeakAux.{weak_aux_bytes}, Relocation.{relocation_bytes}, declared.form.CoffForm.{CoffForm}}
+use Rattle.oc_coff.specs.{declared.form.CoffForm.TheVariants.{Usual32, Usual64, Big32, Big64}, Forms.{format_of, word_of, shape_of, symbol_size}}
+use Rattle.oc_coff.specs.{Names.{padded}, Flags.{with_count, pointer_to, section_flags, machine_of, version_of}}
+use Rattle.oc_coff.specs.Values.{numbers_by, default_numbers, type_by, class_by, aux_by}
 use Rattle.oc_coff_file.specs.Lines.{Line, SectionLine, LocalLine, DefaultLine, OuterLine, lines_where, section_lines, is_written_local, is_free, lines_of, line_size, numbered_lines, entry_count, is_section_line, is_default_line, is_outer_line, section_number, default_number, outer_number}
 use Rattle.oc_coff_file.specs.Bodies.{number_or, field_number, field_patch, field_patches, raw_of, target_number, type_of, relocation_of, relocs_of}
-use Rattle.oc_coff.specs.Flags.{with_count, pointer_to, section_flags, machine_of, version_of}
 use Rattle.oc_coff_file.specs.Layout.{Part, FileHead, SectionHeads, Raw, Relocs, SymbolTable, StringTable, section_parts, parts_of, text_of, part_size, laid_parts, is_raw, is_relocs, is_symbol_table}
 use Rattle.oc_coff_file.specs.Canonical.{symbol_field, section_field, leader_number, leads, selection_of, kept_with, header_at, headers_of, entry, line_entry, tag_of, outer_aux, line_aux, line_rows, entry_rows, file_header, part_bytes, coff_file}
-use Rattle.oc_coff.specs.Values.{numbers_by, default_numbers, type_by, class_by, aux_by}
-use Rattle.oc_coff_file.proofs.CodedLaws.{IsForCoff}
-use Rattle.oc_coff_file.proofs.GroupLaws.{key_is, leader_of, first_passing}
-use Rattle.oc_coff_file.proofs.LineLaws.{IsLineOf, numbered_is_of}
+use Rattle.oc_coff_file.proofs.{CodedLaws.{IsForCoff}, GroupLaws.{key_is, leader_of, first_passing}, LineLaws.{IsLineOf, numbered_is_of}}
 use Rattle.oc_coff_file.proofs.SeenLaws.{shown, again, again_is, are_shown}
 use Rattle.oc_canonical.proofs.MapLemmas.{enumerate_map, filter-append, filter-within, filter-apart, flat_map-mapped, lists_map, map_append, filter-flat_map, flat_map-none, flat_map-filter, map-flat_map, laid_as, laid_map, laid_end_map, place_map, place_map_in, joined_map}
 use Rattle.oc_canonical.proofs.SeenSymbols.{shown_ones, gathered, ones_gathered, gathered_append, gathered_silent, gathered_where, moved, all_moved, any_same, outer_tell, listed, listed_flat}
 use Rattle.oc_canonical.proofs.StaysLemmas.{sections_long, plain_row}
-use Rattle.oc_shows.proofs.FoundLaws.{found_in}
 use Rattle.oc_linking.proofs.LawProofs.{not-true}
 
 -- ... what a symbol says

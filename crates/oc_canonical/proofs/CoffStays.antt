@@ -1,60 +1,29 @@
 -- What is seen of an object that is ready for COFF is ready for COFF.
 use Rattle.std.proofs.Common.{◌≡◌, ℕ, ◌^◌, true, false, cond, not, ◌&&◌, ◌||◌, eqb, nat_lt, nat_le, [], length, is_none, is_err, Option, Some, None, ℤ, refl, sym, ◌∙◌, ap, subst, arith}
-use Rattle.std.specs.Prelude.{slice_get, bytes_eq, nat_eq}
-use Rattle.std.specs.Option.{option_map, option_map_or, unwrap_or}
-use Rattle.std.proofs.lemmas.Bool.{eq-eqb, lt-ltb, or_parts, or_from}
-use Rattle.std.proofs.lemmas.Slice.Eq.{bytes_eq-Decides}
-use Rattle.std.proofs.lemmas.Map.Keys.{any_passes_from_place}
-use Rattle.oc_base.specs.declared.format.Format.{Format}
-use Rattle.oc_base.specs.declared.fault.Spot.{Spot}
-use Rattle.oc_base.specs.Formats.{word_for}
-use Rattle.oc_linking.specs.declared.terms.Kind.{Kind}
-use Rattle.oc_linking.specs.declared.terms.Kind.TheVariants.{Debug}
-use Rattle.oc_linking.specs.declared.terms.Hint.TheVariants.{Plain}
+use Rattle.std.specs.{Prelude.{slice_get, bytes_eq, nat_eq}, Option.{option_map, option_map_or, unwrap_or}}
+use Rattle.std.proofs.lemmas.{Bool.{eq-eqb, lt-ltb, or_parts, or_from}, Slice.Eq.{bytes_eq-Decides}, Map.Keys.{any_passes_from_place}}
+use Rattle.oc_base.specs.{declared.format.Format.{Format}, declared.fault.Spot.{Spot}, Formats.{word_for}}
+use Rattle.oc_linking.specs.{declared.terms.Kind.{Kind}, declared.terms.Kind.TheVariants.{Debug}, declared.terms.Hint.TheVariants.{Plain}}
 use Rattle.oc_algebra.specs.Fields.{to_field_of}
-use Rattle.oc_neutral.specs.declared.section.Section.{Section}
-use Rattle.oc_neutral.specs.declared.symbol.Symbol.{Symbol}
-use Rattle.oc_neutral.specs.declared.reloc.Reloc.{Reloc}
-use Rattle.oc_neutral.specs.Objects.{Object, reloc_at}
-use Rattle.oc_neutral.specs.Coff.Family.{coff_gives, coff_family, is_far}
-use Rattle.oc_neutral.specs.Coff.Kinds.{coff_kind, coff_tag}
-use Rattle.oc_neutral.specs.Coff.Strings.{is_tabled, string_offset}
-use Rattle.oc_neutral.specs.Families.{family_of, section_range}
-use Rattle.oc_neutral.specs.Family.{Family}
-use Rattle.oc_target.specs.Fitted.{IsFitted}
-use Rattle.oc_neutral.specs.HomeNames.{output_names}
-use Rattle.oc_neutral.specs.Invariants.{IsObject}
-use Rattle.oc_neutral.specs.KeySymbols.{group_at, is_key_name, lies_in, has_key_symbol}
-use Rattle.oc_neutral.specs.KindRules.{same_kind}
-use Rattle.oc_neutral.specs.Mach.SelfReferences.{is_self_reference}
-use Rattle.oc_shows.specs.Manners.{coff_manner}
-use Rattle.oc_target.specs.Meets.{HasKeySymbol}
-use Rattle.oc_neutral.specs.Normal.{Place}
-use Rattle.oc_neutral.specs.Relocated.{is_relocated}
-use Rattle.oc_neutral.specs.Rows.{Row}
-use Rattle.oc_shows.specs.Seen.{seen, seen_section, seen_symbol, seen_fallback, seen_reloc}
-use Rattle.oc_neutral.specs.Shifts.{field_shift, written_shift}
-use Rattle.oc_neutral.specs.Spelling.{numbers_in, spelling_of, written_row}
-use Rattle.oc_neutral.specs.TargetSections as sections_of_target
-use Rattle.oc_neutral.specs.TargetSections.{section_count, section_conditions}
-use Rattle.oc_neutral.specs.TargetSymbols.{bounded}
+use Rattle.oc_neutral.specs.{declared.section.Section.{Section}, declared.symbol.Symbol.{Symbol}, declared.reloc.Reloc.{Reloc}, Objects.{Object, reloc_at}}
+use Rattle.oc_neutral.specs.{Coff.Family.{coff_gives, coff_family, is_far}, Coff.Kinds.{coff_kind, coff_tag}, Coff.Strings.{is_tabled, string_offset}}
+use Rattle.oc_neutral.specs.{Families.{family_of, section_range}, Family.{Family}, HomeNames.{output_names}, Invariants.{IsObject}}
+use Rattle.oc_neutral.specs.{KeySymbols.{group_at, is_key_name, lies_in, has_key_symbol}, KindRules.{same_kind}, Mach.SelfReferences.{is_self_reference}}
+use Rattle.oc_neutral.specs.{Normal.{Place}, Relocated.{is_relocated}, Rows.{Row}, Shifts.{field_shift, written_shift}}
+use Rattle.oc_neutral.specs.{Spelling.{numbers_in, spelling_of, written_row}, TargetSections.{section_count, section_conditions}, TargetSymbols.{bounded}}
 use Rattle.oc_neutral.specs.TargetRelocations.{reloc_conditions, is_too_wide, section_taken, taken_end, lacks_difference, fixed_end, has_empty_end}
 use Rattle.oc_neutral.specs.Tests.{is_cut}
-use Rattle.oc_target.proofs.MeetsConditions.{AreMet, section_met, reloc_met}
-use Rattle.oc_target.proofs.MeetsRelocs.{normal_of}
-use Rattle.oc_target.proofs.SeenLaws.{seen_is_object_law}
-use Rattle.oc_shows.proofs.SeenLines.{IsShown}
+use Rattle.oc_target.specs.{Fitted.{IsFitted}, Meets.{HasKeySymbol}}
+use Rattle.oc_shows.specs.{Manners.{coff_manner}, Seen.{seen, seen_section, seen_symbol, seen_fallback, seen_reloc}}
+use Rattle.oc_neutral.specs.TargetSections as sections_of_target
+use Rattle.oc_target.proofs.{MeetsConditions.{AreMet, section_met, reloc_met}, MeetsRelocs.{normal_of}, SeenLaws.{seen_is_object_law}}
 use Rattle.oc_target.proofs.SeenReady.{IsReady, coff_ready}
-use Rattle.oc_coff.specs.declared.form.CoffForm.{CoffForm}
-use Rattle.oc_coff.specs.declared.form.CoffForm.TheVariants.{Usual32, Usual64, Big32, Big64}
-use Rattle.oc_coff.specs.Forms.{format_of, word_of}
-use Rattle.oc_coff_file.proofs.CodedLaws.{IsForCoff, for_coff}
-use Rattle.oc_coff_file.proofs.SeenLaws.{shown, again, again_is, are_shown}
-use Rattle.oc_canonical.proofs.CoffAgain.{plain_rows, offset_same, key_again}
-use Rattle.oc_canonical.proofs.SeenFitted.{FamilyStays, seen_fitted}
+use Rattle.oc_shows.proofs.SeenLines.{IsShown}
+use Rattle.oc_coff.specs.{declared.form.CoffForm.{CoffForm}, declared.form.CoffForm.TheVariants.{Usual32, Usual64, Big32, Big64}, Forms.{format_of, word_of}}
+use Rattle.oc_coff_file.proofs.{CodedLaws.{IsForCoff, for_coff}, SeenLaws.{shown, again, again_is, are_shown}}
+use Rattle.oc_canonical.proofs.{CoffAgain.{plain_rows, offset_same, key_again}, SeenFitted.{FamilyStays, seen_fitted}}
 use Rattle.oc_canonical.proofs.StaysLemmas.{sections_long, target_stays, plain_row}
-use Rattle.oc_elf_file.proofs.TableClean.{none_right}
-use Rattle.oc_elf_file.proofs.HeaderClean.{within_file}
+use Rattle.oc_elf_file.proofs.{TableClean.{none_right}, HeaderClean.{within_file}}
 use Rattle.oc_neutral.proofs.GivenLaws.{same_kind-self}
 
 family_whole : (w : CoffForm) → family_of (format_of w) ≡ coff_family (word_of w)

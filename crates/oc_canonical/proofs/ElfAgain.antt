@@ -1,66 +1,36 @@
 -- The canonical ELF file of what is seen of an object is that of the object.
 use Rattle.std.proofs.Common.{◌≡◌, ℕ, ◌*◌, Bool, true, false, cond, not, eqb, ◌&&◌, List, [], ◌∷◌, ◌++◌, length, map, Option, Some, None, refl, sym, ◌∙◌, ap, append-nil}
 use mathlib.Core.Path.{fun_ext}
-use Rattle.std.specs.Prelude.{slice_get, filter, filter_map, flat_map, replicate, bytes_eq}
-use Rattle.std.specs.List.{enumerate_from}
-use Rattle.std.specs.Option.{option_map, option_map_or, option_and_then}
-use Rattle.std.proofs.lemmas.Bool.{true≢false, not_from_false}
-use Rattle.std.proofs.lemmas.List.{length-map}
-use Rattle.std.specs.Cmp.{first_so}
-use Rattle.oc_base.specs.declared.format.Word.TheVariants.{W32, W64}
-use Rattle.oc_base.specs.declared.format.Format.TheVariants.{Elf32}
-use Rattle.oc_linking.specs.declared.terms.Mark.{Mark}
-use Rattle.oc_linking.specs.declared.terms.Value.{Value}
-use Rattle.oc_linking.specs.declared.terms.Value.TheVariants as value
-use Rattle.oc_linking.specs.declared.terms.Fallback.{Fallback}
-use Rattle.oc_linking.specs.declared.terms.Fallback.TheVariants as fallback
-use Rattle.oc_linking.specs.declared.terms.Binding.{Binding}
-use Rattle.oc_linking.specs.declared.terms.Binding.TheVariants.{Local, Global, Undefined, Common, Weak}
-use Rattle.oc_linking.specs.declared.terms.Patch.{Patch}
-use Rattle.oc_linking.specs.Images.{overlay}
+use Rattle.std.specs.{Prelude.{slice_get, filter, filter_map, flat_map, replicate, bytes_eq}, List.{enumerate_from}}
+use Rattle.std.specs.{Option.{option_map, option_map_or, option_and_then}, Cmp.{first_so}}
+use Rattle.std.proofs.lemmas.{Bool.{true≢false, not_from_false}, List.{length-map}}
+use Rattle.oc_base.specs.{declared.format.Word.TheVariants.{W32, W64}, declared.format.Format.TheVariants.{Elf32}, declared.format.Word.{Word}}
+use Rattle.oc_linking.specs.{declared.terms.Mark.{Mark}, declared.terms.Value.{Value}, declared.terms.Fallback.{Fallback}, declared.terms.Binding.{Binding}}
+use Rattle.oc_linking.specs.{declared.terms.Binding.TheVariants.{Local, Global, Undefined, Common, Weak}, declared.terms.Patch.{Patch}, Images.{overlay}}
 use Rattle.oc_linking.specs.Parts.{is_local}
-use Rattle.oc_algebra.specs.Fields.{to_field_of}
-use Rattle.oc_algebra.specs.Residues.{residue_of}
+use Rattle.oc_linking.specs.declared.terms.Value.TheVariants as value
+use Rattle.oc_linking.specs.declared.terms.Fallback.TheVariants as fallback
+use Rattle.oc_algebra.specs.{Fields.{to_field_of}, Residues.{residue_of}}
 use Rattle.oc_chains.specs.declared.field.Field as chains
 use Rattle.oc_chains.specs.Lists.{list_of}
-use Rattle.oc_neutral.specs.declared.group.Group.{Group}
-use Rattle.oc_neutral.specs.declared.section.Section.{Section}
-use Rattle.oc_neutral.specs.declared.symbol.Symbol.{Symbol}
-use Rattle.oc_neutral.specs.declared.reloc.Reloc.{Reloc}
-use Rattle.oc_neutral.specs.declared.reloc.Target.{Target}
+use Rattle.oc_neutral.specs.{declared.group.Group.{Group}, declared.section.Section.{Section}, declared.symbol.Symbol.{Symbol}, declared.reloc.Reloc.{Reloc}}
+use Rattle.oc_neutral.specs.{declared.reloc.Target.{Target}, Objects.{Object, reloc_at}, Families.{is_many}, KeySymbols.{global_place}, Normal.{Place}}
+use Rattle.oc_neutral.specs.{Rows.{Row, shift_of}, Spelling.{written_row}, WrittenSymbols.{is_written, is_written_as}}
 use Rattle.oc_neutral.specs.declared.reloc.Target.TheVariants as target
-use Rattle.oc_neutral.specs.Objects.{Object, reloc_at}
-use Rattle.oc_neutral.specs.Families.{is_many}
-use Rattle.oc_neutral.specs.KeySymbols.{global_place}
 use Rattle.oc_shows.specs.Manners.{elf_manner, elf_mark, elf_size}
-use Rattle.oc_target.specs.Meets.{IsSteadyAt}
-use Rattle.oc_neutral.specs.Normal.{Place}
-use Rattle.oc_neutral.specs.Rows.{Row, shift_of}
 use Rattle.oc_shows.specs.Seen.{place_at, new_position, seen, seen_section, seen_symbol, seen_binding, seen_field, seen_reloc, seen_target}
-use Rattle.oc_neutral.specs.Spelling.{written_row}
-use Rattle.oc_shows.specs.SymbolLines as table
 use Rattle.oc_shows.specs.SymbolLines.{silent, one, elf_lines, local_lines, is_outer, needs_signature}
-use Rattle.oc_neutral.specs.WrittenSymbols.{is_written, is_written_as}
-use Rattle.oc_target.proofs.MeetsRelocs.{normal_of}
-use Rattle.oc_shows.proofs.SeenAlike.{relocs_same, seen_local}
-use Rattle.oc_shows.proofs.SeenLines.{IsShown}
-use Rattle.oc_target.proofs.SeenReady.{IsReady, elf_ready}
+use Rattle.oc_target.specs.Meets.{IsSteadyAt}
+use Rattle.oc_shows.specs.SymbolLines as table
+use Rattle.oc_target.proofs.{MeetsRelocs.{normal_of}, SeenReady.{IsReady, elf_ready}}
+use Rattle.oc_shows.proofs.{SeenAlike.{relocs_same, seen_local}, SeenLines.{IsShown}, FoundLaws.{found_in}}
 use Rattle.oc_shelf.specs.Writing.Parts.{Laid, laid, behind, aligned, joined, place_where}
 use Rattle.oc_shelf.proofs.WritingLaws.MemberLemmas.{map-map, map-alike, member_map, filter_map-map, filter_map-results}
-use Rattle.oc_elf.specs.declared.class.ElfClass.{ElfClass}
-use Rattle.oc_elf.specs.declared.class.ElfClass.TheVariants.{Class32, Class64, Big32, Big64}
-use Rattle.oc_elf.specs.declared.constants.TheConstants.{ELFDATA2LSB, EV_CURRENT, ET_REL, GRP_COMDAT, GRP_ENTRY_SIZE, SHNDX_SIZE}
-use Rattle.oc_elf.specs.declared.ehdr.Ehdr.{Ehdr}
-use Rattle.oc_elf.specs.declared.shdr.Shdr.{Shdr}
-use Rattle.oc_elf.specs.declared.sym.Sym.{Sym}
-use Rattle.oc_elf.specs.declared.rel.Rel.{Rel}
-use Rattle.oc_elf.specs.Classes.{format_of, machine_of, is_big, word_of}
-use Rattle.oc_elf.specs.Ehdr.{ehdr_size}
-use Rattle.oc_elf.specs.Shdr.{shdr_size, null_shdr}
-use Rattle.oc_elf.specs.Sym.{sym_size}
-use Rattle.oc_elf.specs.Rel.{rel_size}
+use Rattle.oc_elf.specs.{declared.class.ElfClass.{ElfClass}, declared.class.ElfClass.TheVariants.{Class32, Class64, Big32, Big64}}
+use Rattle.oc_elf.specs.{declared.constants.TheConstants.{ELFDATA2LSB, EV_CURRENT, ET_REL, GRP_COMDAT, GRP_ENTRY_SIZE, SHNDX_SIZE}, declared.ehdr.Ehdr.{Ehdr}}
+use Rattle.oc_elf.specs.{declared.shdr.Shdr.{Shdr}, declared.sym.Sym.{Sym}, declared.rel.Rel.{Rel}, Classes.{format_of, machine_of, is_big, word_of}}
+use Rattle.oc_elf.specs.{Ehdr.{ehdr_size}, Shdr.{shdr_size, null_shdr}, Sym.{sym_size}, Rel.{rel_size}}
 use Rattle.oc_elf.specs.Structures.{ehdr_bytes, shdr_bytes, sym_bytes, index_bytes, rel_bytes}
-use Rattle.oc_base.specs.declared.format.Word.{Word}
 use Rattle.oc_elf_file.specs.Heads.{Head, NullHead, GroupHead, SectionHead, RelocHead, SymtabHead, ShndxHead, StrtabHead, ShstrtabHead, placed_sections, group_head, section_head, reloc_head, group_heads, section_heads, reloc_heads, table_heads_by, table_heads, heads_of, head_size, numbered_heads, head_where, is_group_head, is_section_head, is_symtab_head, is_strtab_head, is_shstrtab_head, group_number, section_number, head_name}
 use Rattle.oc_elf_file.specs.Lines.{Line, NullLine, SectionLine, SignatureLine, LocalLine, OuterLine, section_lines, signature_lines, lines_where, inner_lines, outer_lines, lines_of, line_size, numbered_lines, is_section_line, is_signature_line, own_number, symbol_number, signature_number, line_name}
 use Rattle.oc_elf_file.specs.Groups.{is_member_head, member_number, group_words, group_bytes}
@@ -69,12 +39,10 @@ use Rattle.oc_elf_file.specs.Layout.{Part, FileHead, Body, HeadTable, parts_of, 
 use Rattle.oc_elf_file.specs.Headers.{shdr_of, part_header, made_headers, extended_names, zero_shdr, with_first, stored_headers}
 use Rattle.oc_elf_file.specs.Symbols.{offset_in, ValueFields, value_fields_at, value_fields_elsewhere, value_fields_by, value_fields_for, value_fields_of, bind_by, type_by, st_info_by, other_by, symbol_entry, line_entry}
 use Rattle.oc_elf_file.specs.Canonical.{shown_count, shown_names, file_header, body_bytes, part_bytes, elf_file}
-use Rattle.oc_elf_file.proofs.CodedLaws.{IsForElf}
-use Rattle.oc_elf_file.proofs.LineLaws.{IsLineAt, line_at, symbol_found, one_outer}
+use Rattle.oc_elf_file.proofs.{CodedLaws.{IsForElf}, LineLaws.{IsLineAt, line_at, symbol_found, one_outer}}
 use Rattle.oc_elf_file.proofs.SeenLaws.{shown, again, again_is, are_shown, seen_there}
 use Rattle.oc_canonical.proofs.MapLemmas.{enumerate_map, filter-append, filter-within, filter-apart, filter-same, flat_map-mapped, lists_map, map_append, laid_as, laid_map, place_map, joined_map}
 use Rattle.oc_canonical.proofs.SeenSymbols.{shown_ones, gathered, ones_gathered, gathered_append, gathered_replicate, gathered_silent, gathered_where, number_in, moved, all_moved, any_same}
-use Rattle.oc_shows.proofs.FoundLaws.{found_in}
 use Rattle.oc_linking.proofs.LawProofs.{not-true}
 
 -- every Local is written

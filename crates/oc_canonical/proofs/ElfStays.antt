@@ -2,61 +2,30 @@
 use Rattle.std.proofs.Common.{◌≡◌, ℕ, ◌+◌, ◌-◌, ◌^◌, ◌<◌, ◌≤◌, Bool, true, false, cond, not, ◌&&◌, ◌||◌, nat_lt, nat_le, [], length, count_by, is_none, is_err, Some, None, ℤ, refl, sym, ◌∙◌, ap, subst, arith}
 use Rattle.std.proofs.lemmas.Bool.{or_parts, or_from}
 use mathlib.Core.Path.{fun_ext}
-use Rattle.std.specs.Prelude.{slice_get}
-use Rattle.std.specs.List.{range_with_len}
-use Rattle.std.specs.Option.{option_map_or, option_and_then}
-use Rattle.oc_base.specs.declared.format.Format.{Format}
-use Rattle.oc_base.specs.declared.format.Word.TheVariants.{W32}
-use Rattle.oc_base.specs.declared.fault.Spot.{Spot}
-use Rattle.oc_base.specs.Formats.{word_for}
-use Rattle.oc_linking.specs.declared.terms.Kind.{Kind}
-use Rattle.oc_linking.specs.declared.terms.Kind.TheVariants.{Debug}
-use Rattle.oc_linking.specs.declared.terms.Fallback.{Fallback}
-use Rattle.oc_linking.specs.declared.terms.Fallback.TheVariants as fallback
+use Rattle.std.specs.{Prelude.{slice_get}, List.{range_with_len}, Option.{option_map_or, option_and_then}}
+use Rattle.oc_base.specs.{declared.format.Format.{Format}, declared.format.Word.TheVariants.{W32}, declared.fault.Spot.{Spot}, Formats.{word_for}}
+use Rattle.oc_linking.specs.{declared.terms.Kind.{Kind}, declared.terms.Kind.TheVariants.{Debug}, declared.terms.Fallback.{Fallback}}
 use Rattle.oc_linking.specs.declared.terms.Binding.TheVariants.{Weak}
+use Rattle.oc_linking.specs.declared.terms.Fallback.TheVariants as fallback
 use Rattle.oc_algebra.specs.Fields.{to_field_of}
-use Rattle.oc_neutral.specs.declared.section.Section.{Section}
-use Rattle.oc_neutral.specs.declared.symbol.Symbol.{Symbol}
-use Rattle.oc_neutral.specs.declared.reloc.Reloc.{Reloc}
-use Rattle.oc_neutral.specs.Objects.{Object, reloc_at}
+use Rattle.oc_neutral.specs.{declared.section.Section.{Section}, declared.symbol.Symbol.{Symbol}, declared.reloc.Reloc.{Reloc}, Objects.{Object, reloc_at}}
 use Rattle.oc_neutral.specs.Elf.Family.{elf_gives, elf_family, header_count, signature_count, elf_symbol_count, elf_symbols}
 use Rattle.oc_neutral.specs.Elf.Kinds.{elf_kind, elf_tag_type, elf_tag_flags, is_nobits_tag, is_carried_type}
-use Rattle.oc_neutral.specs.Families.{family_of, is_many, Range, section_range}
-use Rattle.oc_neutral.specs.Family.{Family}
-use Rattle.oc_target.specs.Fitted.{IsFitted}
-use Rattle.oc_neutral.specs.HomeNames.{output_names}
-use Rattle.oc_neutral.specs.Invariants.{IsObject}
-use Rattle.oc_neutral.specs.KeySymbols.{global_place}
-use Rattle.oc_neutral.specs.KindRules.{same_kind, has}
-use Rattle.oc_neutral.specs.Mach.SelfReferences.{is_self_reference}
-use Rattle.oc_neutral.specs.declared.elf.TheConstants.{SHF_ALLOC}
-use Rattle.oc_shows.specs.Manners.{elf_manner}
-use Rattle.oc_target.specs.Meets.{IsSteadyAt}
-use Rattle.oc_neutral.specs.Normal.{Place}
-use Rattle.oc_neutral.specs.Relocated.{is_relocated}
-use Rattle.oc_shows.specs.Seen.{place_at, new_position, seen, seen_section, seen_symbol, seen_fallback, seen_reloc}
-use Rattle.oc_neutral.specs.Shifts.{field_shift}
-use Rattle.oc_neutral.specs.Stored.{is_stored}
-use Rattle.oc_neutral.specs.TargetSections as sections_of_target
-use Rattle.oc_neutral.specs.TargetSections.{section_count, section_conditions}
-use Rattle.oc_neutral.specs.TargetSymbols.{bounded}
+use Rattle.oc_neutral.specs.{Families.{family_of, is_many, Range, section_range}, Family.{Family}, HomeNames.{output_names}, Invariants.{IsObject}}
+use Rattle.oc_neutral.specs.{KeySymbols.{global_place}, KindRules.{same_kind, has}, Mach.SelfReferences.{is_self_reference}}
+use Rattle.oc_neutral.specs.{declared.elf.TheConstants.{SHF_ALLOC}, Normal.{Place}, Relocated.{is_relocated}, Shifts.{field_shift}, Stored.{is_stored}}
+use Rattle.oc_neutral.specs.{TargetSections.{section_count, section_conditions}, TargetSymbols.{bounded}}
 use Rattle.oc_neutral.specs.TargetRelocations.{reloc_conditions, is_too_wide, section_taken, taken_end, lacks_difference, fixed_end, has_empty_end}
 use Rattle.oc_neutral.specs.Spelling.{spelling_of}
-use Rattle.oc_target.proofs.MeetsConditions.{AreMet, section_met, reloc_met}
-use Rattle.oc_target.proofs.MeetsRelocs.{normal_of}
-use Rattle.oc_target.proofs.SeenLaws.{seen_is_object_law}
-use Rattle.oc_shows.proofs.SeenLines.{IsShown}
+use Rattle.oc_target.specs.{Fitted.{IsFitted}, Meets.{IsSteadyAt}}
+use Rattle.oc_shows.specs.{Manners.{elf_manner}, Seen.{place_at, new_position, seen, seen_section, seen_symbol, seen_fallback, seen_reloc}}
+use Rattle.oc_neutral.specs.TargetSections as sections_of_target
+use Rattle.oc_target.proofs.{MeetsConditions.{AreMet, section_met, reloc_met}, MeetsRelocs.{normal_of}, SeenLaws.{seen_is_object_law}}
 use Rattle.oc_target.proofs.SeenReady.{IsReady, elf_ready}
-use Rattle.oc_elf.specs.declared.class.ElfClass.{ElfClass}
-use Rattle.oc_elf.specs.declared.class.ElfClass.TheVariants.{Class32, Class64, Big32, Big64}
-use Rattle.oc_elf.specs.Classes.{word_of, format_of}
-use Rattle.oc_elf_file.proofs.CodedLaws.{IsForElf, for_elf}
-use Rattle.oc_elf_file.proofs.SeenLaws.{shown, again, again_is, are_shown}
-use Rattle.oc_elf_file.proofs.TableClean.{none_right}
-use Rattle.oc_elf_file.proofs.HeaderClean.{within_file}
-use Rattle.oc_canonical.proofs.ElfAgain.{signature_same}
-use Rattle.oc_canonical.proofs.SeenSums.{seen_few}
-use Rattle.oc_canonical.proofs.SeenFitted.{FamilyStays, seen_fitted}
+use Rattle.oc_shows.proofs.SeenLines.{IsShown}
+use Rattle.oc_elf.specs.{declared.class.ElfClass.{ElfClass}, declared.class.ElfClass.TheVariants.{Class32, Class64, Big32, Big64}, Classes.{word_of, format_of}}
+use Rattle.oc_elf_file.proofs.{CodedLaws.{IsForElf, for_elf}, SeenLaws.{shown, again, again_is, are_shown}, TableClean.{none_right}, HeaderClean.{within_file}}
+use Rattle.oc_canonical.proofs.{ElfAgain.{signature_same}, SeenSums.{seen_few}, SeenFitted.{FamilyStays, seen_fitted}}
 use Rattle.oc_canonical.proofs.StaysLemmas.{none_member, sections_long, relocated_same, target_stays}
 use Rattle.oc_neutral.proofs.GivenLaws.{same_kind-self}
 

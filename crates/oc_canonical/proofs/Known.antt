@@ -1,25 +1,17 @@
 -- The first bytes of a canonical file tell its format.
 use Rattle.std.proofs.Common.{◌≡◌, ℕ, ◌≤◌, Bool, true, false, cond, not, ◌&&◌, ◌||◌, eqb, nat_le, List, length, Some, refl, ◌∙◌, ap}
-use Rattle.oc_base.specs.declared.format.Word.{Word}
-use Rattle.oc_base.specs.declared.format.Word.TheVariants.{W32, W64}
-use Rattle.oc_base.specs.declared.format.Format.TheVariants.{Elf32, Elf64, Omf, BigElf32, BigElf64}
-use Rattle.oc_base.specs.Numbers.{bytes_of_number}
-use Rattle.oc_neutral.specs.KindRules.{begins}
-use Rattle.oc_neutral.specs.Objects.{Object}
+use Rattle.oc_base.specs.{declared.format.Word.{Word}, declared.format.Word.TheVariants.{W32, W64}}
+use Rattle.oc_base.specs.{declared.format.Format.TheVariants.{Elf32, Elf64, Omf, BigElf32, BigElf64}, Numbers.{bytes_of_number}}
+use Rattle.oc_neutral.specs.{KindRules.{begins}, Objects.{Object}}
 use Rattle.oc_convert.specs.Identified.{identified, elf32_bytes, elf64_bytes, is_big_elf32, is_big_elf64}
-use Rattle.oc_elf.specs.declared.class.ElfClass.{ElfClass}
-use Rattle.oc_elf.specs.declared.class.ElfClass.TheVariants.{Class32, Class64, Big32, Big64}
-use Rattle.oc_elf.specs.declared.constants.TheConstants.{SHN_XINDEX}
-use Rattle.oc_elf.specs.declared.ehdr.Ehdr.{Ehdr}
-use Rattle.oc_elf.specs.Classes.{format_of, is_big, word_of}
+use Rattle.oc_elf.specs.{declared.class.ElfClass.{ElfClass}, declared.class.ElfClass.TheVariants.{Class32, Class64, Big32, Big64}}
+use Rattle.oc_elf.specs.{declared.constants.TheConstants.{SHN_XINDEX}, declared.ehdr.Ehdr.{Ehdr}, Classes.{format_of, is_big, word_of}}
 use Rattle.oc_elf.specs.Ehdr.{ehdr_in, ehdr_size}
 use Rattle.oc_elf.specs.Structures as elf
 use Rattle.oc_elf_file.specs.Layout as elf_layout
 use Rattle.oc_elf_file.specs.Canonical as elf_canonical
 use Rattle.oc_elf_file.specs.Canonical.{file_header, elf_file}
-use Rattle.oc_elf_file.proofs.CodedLaws.{IsForElf}
-use Rattle.oc_elf_file.proofs.CodableLaws.{has_numbers}
-use Rattle.oc_elf_file.proofs.FrameLaws.{header_read}
+use Rattle.oc_elf_file.proofs.{CodedLaws.{IsForElf}, CodableLaws.{has_numbers}, FrameLaws.{header_read}}
 use Rattle.oc_elf_file.proofs.HeaderNumbers.{header_inside, some_table, big_number, plain_number, plain_names}
 use Rattle.oc_coff.specs.declared.form.CoffForm.{CoffForm}
 use Rattle.oc_coff.specs.declared.form.CoffForm.TheVariants as form

@@ -2,103 +2,61 @@
 use Rattle.std.proofs.Common.{◌≡◌, ◌≢◌, ℕ, ◌+◌, ◌-◌, ◌*◌, ◌%◌, Bool, true, false, cond, not, ◌&&◌, ◌||◌, List, [], ◌∷◌, ◌++◌, length, map, Option, Some, None, ℤ, pos, inl, inr, ◌⊎◌, refl, sym, ◌∙◌, ap, arith, append-nil}
 use mathlib.Core.Path.{fun_ext}
 use Rattle.std.specs.Prelude.{slice_get, filter, flat_map, replicate, nat_eq, neg_ℤ, ◌-ℤ◌, ◌+ℤ◌}
-use Rattle.std.specs.List.{AllByRecursion, enumerate_from, list_any, range_with_len}
-use Rattle.std.specs.Option.{option_map, option_map_or, option_and_then}
-use Rattle.std.proofs.lemmas.Bool.{true≢false, and_parts, false_from_ne_true}
-use Rattle.std.proofs.lemmas.Int.{ints}
-use Rattle.std.proofs.lemmas.List.{length-map}
-use Rattle.std.proofs.lemmas.Option.{none-some}
-use Rattle.oc_base.specs.declared.format.Word.{Word}
-use Rattle.oc_base.specs.declared.format.Word.TheVariants.{W32, W64}
-use Rattle.oc_base.specs.Formats.{word_for}
-use Rattle.oc_linking.specs.declared.terms.Hint.{Hint}
-use Rattle.oc_linking.specs.declared.terms.Hint.TheVariants.{Call}
-use Rattle.oc_linking.specs.declared.terms.Less.{Less}
+use Rattle.std.specs.{List.{AllByRecursion, enumerate_from, list_any, range_with_len}, Option.{option_map, option_map_or, option_and_then}}
+use Rattle.std.proofs.lemmas.{Bool.{true≢false, and_parts, false_from_ne_true}, Int.{ints}, List.{length-map}, Option.{none-some}}
+use Rattle.oc_base.specs.{declared.format.Word.{Word}, declared.format.Word.TheVariants.{W32, W64}, Formats.{word_for}}
+use Rattle.oc_linking.specs.{declared.terms.Hint.{Hint}, declared.terms.Hint.TheVariants.{Call}, declared.terms.Less.{Less}}
+use Rattle.oc_linking.specs.{declared.terms.Visibility.{Visibility}, declared.terms.Visibility.TheVariants.{Default, Internal, Hidden, Protected}}
+use Rattle.oc_linking.specs.{declared.terms.Value.{Value}, declared.terms.Fallback.{Fallback}, declared.terms.Binding.{Binding}}
+use Rattle.oc_linking.specs.{declared.terms.Binding.TheVariants.{Local, Global, Undefined, Common, Weak}, declared.terms.Patch.{Patch}, Images.{overlay}}
+use Rattle.oc_linking.specs.{Parts.{is_local}, Numbers.{modulus}}
 use Rattle.oc_linking.specs.declared.terms.Less.TheVariants as less
-use Rattle.oc_linking.specs.declared.terms.Visibility.{Visibility}
-use Rattle.oc_linking.specs.declared.terms.Visibility.TheVariants.{Default, Internal, Hidden, Protected}
-use Rattle.oc_linking.specs.declared.terms.Value.{Value}
 use Rattle.oc_linking.specs.declared.terms.Value.TheVariants as value
-use Rattle.oc_linking.specs.declared.terms.Fallback.{Fallback}
 use Rattle.oc_linking.specs.declared.terms.Fallback.TheVariants as fallback
 use Rattle.oc_linking.specs.declared.terms.Base.TheVariants as base
-use Rattle.oc_linking.specs.declared.terms.Binding.{Binding}
-use Rattle.oc_linking.specs.declared.terms.Binding.TheVariants.{Local, Global, Undefined, Common, Weak}
-use Rattle.oc_linking.specs.declared.terms.Patch.{Patch}
-use Rattle.oc_linking.specs.Images.{overlay}
-use Rattle.oc_linking.specs.Parts.{is_local}
-use Rattle.oc_algebra.specs.declared.form.Form.{Form}
-use Rattle.oc_algebra.specs.Fields.{field_for, to_field_of}
-use Rattle.oc_algebra.specs.Residues.{residue_of, reduced_number}
-use Rattle.oc_linking.specs.Numbers.{modulus}
+use Rattle.oc_algebra.specs.{declared.form.Form.{Form}, Fields.{field_for, to_field_of}, Residues.{residue_of, reduced_number}}
 use Rattle.oc_algebra.proofs.Laws.{residue_add, residue_reduced, reduced_same}
 use Rattle.oc_chains.specs.declared.field.Field as chains
 use Rattle.oc_chains.specs.Lists.{list_of}
-use Rattle.oc_neutral.specs.declared.section.Section.{Section}
-use Rattle.oc_neutral.specs.declared.symbol.Symbol.{Symbol}
-use Rattle.oc_neutral.specs.declared.reloc.Reloc.{Reloc}
-use Rattle.oc_neutral.specs.declared.reloc.Target.{Target}
+use Rattle.oc_neutral.specs.{declared.section.Section.{Section}, declared.symbol.Symbol.{Symbol}, declared.reloc.Reloc.{Reloc}, declared.reloc.Target.{Target}}
+use Rattle.oc_neutral.specs.{Bindings.{is_written_by}, Dressing.{is_common}, Families.{family_of}, KeySymbols.{global_place}}
+use Rattle.oc_neutral.specs.Mach.SectionSymbols.{section_symbol_name, names_section, any_names, needs_section_symbol, needed_sections}
+use Rattle.oc_neutral.specs.{Mach.SelfReferences.{is_section, is_long_distance, is_self_reference}, Normal.{Place, moved_addend, at_section, takes_section}}
+use Rattle.oc_neutral.specs.{Objects.{Object, reloc_at}, RelocTables.{rows_of}, Rows.{Row, TakesPlace, TakesSection, same_taken, taken_of, same_hint}}
+use Rattle.oc_neutral.specs.{Shifts.{Sectional, entry_target_shift, sectdiff_shift, written_shift}, Spelling.{written_row}, TargetRelocations.{section_taken}}
+use Rattle.oc_neutral.specs.{WrittenSymbols.{is_written}, Mach.Kinds.{segment_of, section_of}}
 use Rattle.oc_neutral.specs.declared.reloc.Target.TheVariants as target
 use Rattle.oc_neutral.specs.Bindings as weak
-use Rattle.oc_neutral.specs.Bindings.{is_written_by}
-use Rattle.oc_neutral.specs.Dressing.{is_common}
-use Rattle.oc_neutral.specs.Families.{family_of}
-use Rattle.oc_neutral.specs.KeySymbols.{global_place}
-use Rattle.oc_neutral.specs.Mach.SectionSymbols.{section_symbol_name, names_section, any_names, needs_section_symbol, needed_sections}
-use Rattle.oc_neutral.specs.Mach.SelfReferences.{is_section, is_long_distance, is_self_reference}
 use Rattle.oc_shows.specs.Manners.{mach_manner, mach_vis, mach_hint, mach_by_section, hidden, is_of_section, Manner}
-use Rattle.oc_neutral.specs.Normal.{Place, moved_addend, at_section, takes_section}
-use Rattle.oc_neutral.specs.Objects.{Object, reloc_at}
-use Rattle.oc_neutral.specs.RelocTables.{rows_of}
-use Rattle.oc_neutral.specs.Rows.{Row, TakesPlace, TakesSection, same_taken, taken_of, same_hint}
 use Rattle.oc_shows.specs.Seen.{place_at, target_place, section_place, new_position, seen, seen_section, seen_symbol, seen_binding, seen_fallback, seen_field, seen_reloc, seen_target}
-use Rattle.oc_neutral.specs.Shifts.{Sectional, entry_target_shift, sectdiff_shift, written_shift}
-use Rattle.oc_neutral.specs.Spelling.{written_row}
-use Rattle.oc_shows.specs.SymbolLines as table
 use Rattle.oc_shows.specs.SymbolLines.{one, is_defined, is_undefined, is_weak_with, mach_lines}
-use Rattle.oc_neutral.specs.TargetRelocations.{section_taken}
-use Rattle.oc_neutral.specs.WrittenSymbols.{is_written}
-use Rattle.oc_target.proofs.MeetsRelocs.{normal_of}
-use Rattle.oc_shows.proofs.SeenAlike.{relocs_same, seen_local, stands}
-use Rattle.oc_shows.proofs.SeenLines.{IsShown}
-use Rattle.oc_target.proofs.SeenReady.{IsReady, mach_ready}
-use Rattle.oc_shelf.specs.Writing.Packed.{packed}
-use Rattle.oc_shelf.specs.Writing.Parts.{Laid, laid, laid_end, behind, aligned, joined, place_where}
-use Rattle.oc_shelf.proofs.WritingLaws.MemberLemmas.{map-map, map-alike, of_enumerated}
-use Rattle.oc_shelf.proofs.WritingLaws.PartLemmas.{laid_part}
+use Rattle.oc_shows.specs.SymbolLines as table
+use Rattle.oc_target.proofs.{MeetsRelocs.{normal_of}, SeenReady.{IsReady, mach_ready}}
+use Rattle.oc_shows.proofs.{SeenAlike.{relocs_same, seen_local, stands}, SeenLines.{IsShown}, FoundLaws.{found_in}}
+use Rattle.oc_shelf.specs.{Writing.Packed.{packed}, Writing.Parts.{Laid, laid, laid_end, behind, aligned, joined, place_where}}
+use Rattle.oc_shelf.proofs.{WritingLaws.MemberLemmas.{map-map, map-alike, of_enumerated}, WritingLaws.PartLemmas.{laid_part}}
 use Rattle.oc_macho.specs.declared.constants.TheConstants.{MH_OBJECT, LC_DYSYMTAB, N_SECT, N_WEAK_REF, N_WEAK_DEF}
-use Rattle.oc_macho.specs.declared.load_command.TheConstants.{DYSYMTAB_COMMAND_SIZE}
-use Rattle.oc_macho.specs.declared.symtab_command.TheConstants.{SYMTAB_COMMAND_SIZE}
-use Rattle.oc_macho.specs.declared.names.TheConstants.{NAME_SIZE}
-use Rattle.oc_macho.specs.SegmentCommand.{segment_number, segment_command_size}
-use Rattle.oc_macho.specs.declared.relocation_info.TheConstants.{RELOCATION_INFO_SIZE}
-use Rattle.oc_macho.specs.declared.relocation_info.Reference.TheVariants as reference
-use Rattle.oc_macho.specs.declared.relocation_info.RelocationInfo.{RelocationInfo}
-use Rattle.oc_macho.specs.declared.mach_header.MachHeader.{MachHeader}
-use Rattle.oc_macho.specs.declared.section_header.SectionHeader.{SectionHeader}
-use Rattle.oc_macho.specs.declared.symtab_command.SymtabCommand.{SymtabCommand}
-use Rattle.oc_macho.specs.declared.nlist.Nlist.{Nlist}
-use Rattle.oc_macho.specs.MachHeader.{address_size, cpu_type, mach_format, mach_header_size}
-use Rattle.oc_macho.specs.SectionHeader.{section_header_size}
-use Rattle.oc_macho.specs.Nlist.{nlist_size}
-use Rattle.oc_neutral.specs.Mach.Kinds.{segment_of, section_of}
+use Rattle.oc_macho.specs.{declared.load_command.TheConstants.{DYSYMTAB_COMMAND_SIZE}, declared.symtab_command.TheConstants.{SYMTAB_COMMAND_SIZE}}
+use Rattle.oc_macho.specs.{declared.names.TheConstants.{NAME_SIZE}, SegmentCommand.{segment_number, segment_command_size}}
+use Rattle.oc_macho.specs.{declared.relocation_info.TheConstants.{RELOCATION_INFO_SIZE}, declared.relocation_info.RelocationInfo.{RelocationInfo}}
+use Rattle.oc_macho.specs.{declared.mach_header.MachHeader.{MachHeader}, declared.section_header.SectionHeader.{SectionHeader}}
+use Rattle.oc_macho.specs.{declared.symtab_command.SymtabCommand.{SymtabCommand}, declared.nlist.Nlist.{Nlist}}
+use Rattle.oc_macho.specs.{MachHeader.{address_size, cpu_type, mach_format, mach_header_size}, SectionHeader.{section_header_size}, Nlist.{nlist_size}}
 use Rattle.oc_macho.specs.declared.constants.TheConstants.{COMMAND_COUNT, CPU_SUBTYPE_ALL, VM_PROT_ALL}
 use Rattle.oc_macho.specs.Structures.{magic_of, padded, mach_header_bytes, symtab_bytes, section_bytes, nlist_bytes, relocation_bytes}
+use Rattle.oc_macho.specs.declared.relocation_info.Reference.TheVariants as reference
 use Rattle.oc_macho_file.specs.Addresses.{Numbered, is_blank, stored_sections, blank_sections, section_begin, size_of, mapped, is_at, address_of, memory_end, stored_end}
 use Rattle.oc_macho_file.specs.Lines.{Line, OwnLine, LocalLine, OuterLine, own_lines, lines_where, local_lines, inner_lines, defined_lines, undefined_lines, lines_of, line_size, numbered_lines, is_own_line, is_symbol_line, own_number, symbol_number, line_name}
 use Rattle.oc_macho_file.specs.Bodies.{WrittenReloc, taken_section, end_address, end_section_address, entry_target_of, alone_shift, pair_shift, field_shift, number_or, field_number, written_reloc_at, field_patch, field_patches, raw_of, reference_to, plain_entry, scattered_entry, pair_entries, standing_entries, entries_at, entries_of}
 use Rattle.oc_macho_file.specs.Layout.{Part, FileHead, SegmentHead, SectionHeads, SymtabHead, DysymtabHead, Raw, Relocs, SymbolTable, StringTable, raw_part, relocs_part, head_parts, table_parts, parts_of, commands_length, contents_begin, relocs_of, line_names, offset_in, strings_of, filled, string_table, part_size, entries_align, part_begin, laid_parts, part_where, is_raw, is_relocs, is_symbol_table, is_string_table}
 use Rattle.oc_macho_file.specs.Symbols.{exponent_of, ValueFields, value_fields_at, value_fields_by, value_fields_for, value_fields_of, external_flag, private_flag, desc_by, symbol_entry, line_entry}
 use Rattle.oc_macho_file.specs.Canonical.{file_header, segment_numbers, pointer_to, section_header, section_headers, symtab_command, words, dysymtab_numbers, part_bytes, mach_file}
-use Rattle.oc_macho_file.proofs.CodedLaws.{IsForMach, IsPlaced, word_back, fallback_is}
-use Rattle.oc_macho_file.proofs.LineLaws.{IsLine, line_at}
-use Rattle.oc_macho_file.proofs.RowLaws.{IsKnown, KnownAlone, KnownPair}
+use Rattle.oc_macho_file.proofs.{CodedLaws.{IsForMach, IsPlaced, word_back, fallback_is}, LineLaws.{IsLine, line_at}, RowLaws.{IsKnown, KnownAlone, KnownPair}}
 use Rattle.oc_macho_file.proofs.EntryLaws.{mach_reloc, meets, entry, row_is, known, standing, standing_is, pair_second}
 use Rattle.oc_macho_file.proofs.SeenLaws.{shown, again, again_is, are_shown}
 use Rattle.oc_canonical.proofs.MapLemmas.{enumerate_map, filter-append, filter-mapped, filter-within, filter-apart, filter-same, flat_map-mapped, lists_map, map_append, any_mapped, laid_as, laid_map, laid_end_map, place_map, place_map_in, joined_map}
 use Rattle.oc_canonical.proofs.SeenSymbols.{shown_ones, gathered, ones_gathered, gathered_append, gathered_silent, gathered_where, moved, all_moved, outer_tell}
 use Rattle.oc_canonical.proofs.StaysLemmas.{sections_long, plain_row}
-use Rattle.oc_shows.proofs.FoundLaws.{found_in}
 use Rattle.oc_linking.proofs.LawProofs.{not-true}
 
 -- ... parts of a list by tests, of which no two hold of one

@@ -1,67 +1,36 @@
 -- What is seen of an object that is ready for Mach-O is ready for Mach-O.
 use Rattle.std.proofs.Common.{◌≡◌, ℕ, zero, suc, ◌+◌, ◌^◌, ◌<◌, ◌≤◌, ◌⊎◌, inl, inr, Bool, true, false, cond, not, ◌&&◌, ◌||◌, nat_lt, nat_le, List, [], ◌∷◌, ◌++◌, length, map, is_none, is_err, Option, Some, None, ℤ, refl, sym, ◌∙◌, ap, subst, arith}
-use Rattle.std.specs.Prelude.{slice_get, nat_eq}
-use Rattle.std.specs.List.{enumerate_from, list_any}
-use Rattle.std.specs.Option.{option_map, option_map_or, option_and_then}
-use Rattle.std.proofs.lemmas.Bool.{eq-eqb, lt-ltb, or_parts, or_from}
-use Rattle.std.proofs.lemmas.Option.{none-some, same_Some}
-use Rattle.oc_base.specs.declared.format.Word.{Word}
-use Rattle.oc_base.specs.declared.format.Word.TheVariants.{W32, W64}
-use Rattle.oc_base.specs.declared.format.Format.{Format}
-use Rattle.oc_base.specs.declared.fault.Spot.{Spot}
+use Rattle.std.specs.{Prelude.{slice_get, nat_eq}, List.{enumerate_from, list_any}, Option.{option_map, option_map_or, option_and_then}}
+use Rattle.std.proofs.lemmas.{Bool.{eq-eqb, lt-ltb, or_parts, or_from}, Option.{none-some, same_Some}}
+use Rattle.oc_base.specs.{declared.format.Word.{Word}, declared.format.Word.TheVariants.{W32, W64}, declared.format.Format.{Format}, declared.fault.Spot.{Spot}}
 use Rattle.oc_base.specs.Formats.{word_for}
-use Rattle.oc_linking.specs.declared.terms.Kind.{Kind}
-use Rattle.oc_linking.specs.declared.terms.Kind.TheVariants.{Debug}
+use Rattle.oc_linking.specs.{declared.terms.Kind.{Kind}, declared.terms.Kind.TheVariants.{Debug}, declared.terms.Fallback.{Fallback}}
+use Rattle.oc_linking.specs.{declared.terms.Binding.{Binding}, declared.terms.Binding.TheVariants.{Local, Global, Undefined, Common, Weak}}
 use Rattle.oc_linking.specs.declared.terms.Value.TheVariants as value
-use Rattle.oc_linking.specs.declared.terms.Fallback.{Fallback}
 use Rattle.oc_linking.specs.declared.terms.Fallback.TheVariants as fallback
-use Rattle.oc_linking.specs.declared.terms.Binding.{Binding}
-use Rattle.oc_linking.specs.declared.terms.Binding.TheVariants.{Local, Global, Undefined, Common, Weak}
-use Rattle.oc_algebra.specs.declared.form.Form.{Form}
-use Rattle.oc_algebra.specs.Fields.{to_field_of}
-use Rattle.oc_neutral.specs.declared.section.Section.{Section}
-use Rattle.oc_neutral.specs.declared.symbol.Symbol.{Symbol}
-use Rattle.oc_neutral.specs.declared.reloc.Reloc.{Reloc}
-use Rattle.oc_neutral.specs.declared.reloc.Target.{Target}
-use Rattle.oc_neutral.specs.declared.reloc.Target.TheVariants as aim
-use Rattle.oc_neutral.specs.Objects.{Object, reloc_at}
-use Rattle.oc_neutral.specs.Bindings.{is_written_by}
-use Rattle.oc_neutral.specs.Families.{family_of, Range, upto, section_range}
-use Rattle.oc_neutral.specs.Family.{Family}
-use Rattle.oc_target.specs.Fitted.{IsFitted}
-use Rattle.oc_neutral.specs.HomeNames.{output_names}
-use Rattle.oc_neutral.specs.Invariants.{IsObject}
-use Rattle.oc_neutral.specs.KeySymbols.{global_place}
-use Rattle.oc_neutral.specs.KindRules.{same_kind}
+use Rattle.oc_algebra.specs.{declared.form.Form.{Form}, Fields.{to_field_of}}
+use Rattle.oc_neutral.specs.{declared.section.Section.{Section}, declared.symbol.Symbol.{Symbol}, declared.reloc.Reloc.{Reloc}, declared.reloc.Target.{Target}}
+use Rattle.oc_neutral.specs.{Objects.{Object, reloc_at}, Bindings.{is_written_by}, Families.{family_of, Range, upto, section_range}, Family.{Family}}
+use Rattle.oc_neutral.specs.{HomeNames.{output_names}, Invariants.{IsObject}, KeySymbols.{global_place}, KindRules.{same_kind}}
 use Rattle.oc_neutral.specs.Mach.Family.{mach_family, mach_gives, mach_writes, mach_needed, mach_symbol_count}
-use Rattle.oc_neutral.specs.Mach.Kinds.{is_comma, segment_of, section_of, mach_kind, mach_tag, is_read_type}
-use Rattle.oc_neutral.specs.Mach.SelfReferences.{is_self_reference}
-use Rattle.oc_shows.specs.Manners.{Manner, mach_manner}
-use Rattle.oc_neutral.specs.Normal.{Place, at_section}
-use Rattle.oc_neutral.specs.Relocated.{is_relocated}
-use Rattle.oc_neutral.specs.Rows.{Row}
-use Rattle.oc_shows.specs.Seen.{place_at, section_place, seen, seen_section, seen_symbol, seen_binding, seen_fallback, seen_reloc, seen_target}
-use Rattle.oc_neutral.specs.Shifts.{field_shift, written_shift}
-use Rattle.oc_neutral.specs.Spelling.{numbers_in, spelling_of, written_row}
-use Rattle.oc_neutral.specs.Stored.{is_stored}
-use Rattle.oc_neutral.specs.TargetSections as sections_of_target
-use Rattle.oc_neutral.specs.TargetSections.{section_count, section_conditions}
+use Rattle.oc_neutral.specs.{Mach.Kinds.{is_comma, segment_of, section_of, mach_kind, mach_tag, is_read_type}, Mach.SelfReferences.{is_self_reference}}
+use Rattle.oc_neutral.specs.{Normal.{Place, at_section}, Relocated.{is_relocated}, Rows.{Row}, Shifts.{field_shift, written_shift}}
+use Rattle.oc_neutral.specs.{Spelling.{numbers_in, spelling_of, written_row}, Stored.{is_stored}, TargetSections.{section_count, section_conditions}}
 use Rattle.oc_neutral.specs.TargetSymbols.{bounded}
 use Rattle.oc_neutral.specs.TargetRelocations.{reloc_conditions, is_too_wide, taken_end, lacks_difference, fixed_end, global_section, has_empty_end, is_empty, is_symbol}
-use Rattle.oc_target.proofs.MeetsConditions.{AreMet, section_met, reloc_met}
-use Rattle.oc_target.proofs.SeenLaws.{seen_is_object_law}
-use Rattle.oc_shows.proofs.SeenAlike.{stands}
-use Rattle.oc_shows.proofs.SeenLines.{IsShown}
+use Rattle.oc_neutral.specs.declared.reloc.Target.TheVariants as aim
+use Rattle.oc_target.specs.Fitted.{IsFitted}
+use Rattle.oc_shows.specs.Manners.{Manner, mach_manner}
+use Rattle.oc_shows.specs.Seen.{place_at, section_place, seen, seen_section, seen_symbol, seen_binding, seen_fallback, seen_reloc, seen_target}
+use Rattle.oc_neutral.specs.TargetSections as sections_of_target
+use Rattle.oc_target.proofs.{MeetsConditions.{AreMet, section_met, reloc_met}, SeenLaws.{seen_is_object_law}}
+use Rattle.oc_shows.proofs.{SeenAlike.{stands}, SeenLines.{IsShown}}
 use Rattle.oc_macho.specs.MachHeader.{mach_format}
-use Rattle.oc_macho_file.proofs.CodedLaws.{IsForMach, IsPlaced, for_mach, fallback_is}
-use Rattle.oc_macho_file.proofs.SeenLaws.{shown, again, again_is, are_shown}
+use Rattle.oc_macho_file.proofs.{CodedLaws.{IsForMach, IsPlaced, for_mach, fallback_is}, SeenLaws.{shown, again, again_is, are_shown}}
 use Rattle.oc_macho_file.proofs.StructureLaws.{high_test}
 use Rattle.oc_canonical.proofs.MachAgain.{row_same, is_moved, written_same, ready, form_same, hint_same, target_same, long_place, self_same, needed_again, addend_same}
-use Rattle.oc_canonical.proofs.SeenSums.{seen_count}
-use Rattle.oc_canonical.proofs.SeenFitted.{FamilyStays, seen_fitted}
-use Rattle.oc_canonical.proofs.StaysLemmas.{sections_long, target_stays}
-use Rattle.oc_elf_file.proofs.TableClean.{none_right}
-use Rattle.oc_elf_file.proofs.HeaderClean.{within_file}
+use Rattle.oc_canonical.proofs.{SeenSums.{seen_count}, SeenFitted.{FamilyStays, seen_fitted}, StaysLemmas.{sections_long, target_stays}}
+use Rattle.oc_elf_file.proofs.{TableClean.{none_right}, HeaderClean.{within_file}}
 use Rattle.oc_neutral.proofs.GivenLaws.{same_kind-self}
 
 family_whole : (w : Word) → family_of (mach_format w) ≡ mach_family w

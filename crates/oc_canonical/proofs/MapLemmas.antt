@@ -1,8 +1,6 @@
 -- Lists whose items are changed: what is found in them, and the parts of files.
 use Rattle.std.proofs.Common.{◌≡◌, ℕ, zero, suc, ◌+◌, ◌-◌, Bool, true, false, cond, List, [], ◌∷◌, ◌++◌, length, map, Some, refl, sym, ◌∙◌, ap}
-use Rattle.std.specs.Prelude.{slice_get, slice_index_or, filter, flat_map, find, replicate}
-use Rattle.std.specs.List.{enumerate_from, list_any}
-use Rattle.std.specs.Option.{option_map_or}
+use Rattle.std.specs.{Prelude.{slice_get, slice_index_or, filter, flat_map, find, replicate}, List.{enumerate_from, list_any}, Option.{option_map_or}}
 use Rattle.std.proofs.lemmas.Bool.{true≢false}
 use Rattle.oc_shelf.specs.Writing.Parts.{Laid, laid, laid_end, joined, place_where}
 

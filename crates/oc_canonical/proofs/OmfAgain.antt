@@ -2,62 +2,37 @@
 use Rattle.std.proofs.Common.{◌≡◌, ℕ, suc, ◌+◌, ◌-◌, Bool, true, false, cond, eqb, ◌&&◌, nat_le, nat_lt, List, [], ◌∷◌, ◌++◌, length, map, fold, Option, Some, None, ℤ, refl, sym, ◌∙◌, ap, append-nil}
 use mathlib.Core.Path.{fun_ext}
 use Rattle.std.specs.Prelude.{slice_get, filter, filter_map, flat_map, bytes_eq, nat_eq, codes, slice_range}
-use Rattle.std.specs.List.{AllByRecursion, enumerate_from, cons_option, position_or_len}
-use Rattle.std.specs.Option.{option_map, option_map_or, option_and_then}
-use Rattle.std.proofs.lemmas.Bool.{true≢false, false_from_ne_true}
-use Rattle.std.proofs.lemmas.List.{length-map}
-use Rattle.oc_base.specs.declared.format.Word.TheVariants.{W32}
-use Rattle.oc_base.specs.declared.format.Format.TheVariants.{Omf}
-use Rattle.oc_base.specs.Formats.{word_for}
-use Rattle.oc_linking.specs.declared.terms.Hint.TheVariants.{Plain, Call}
-use Rattle.oc_linking.specs.declared.terms.Binding.{Binding}
-use Rattle.oc_linking.specs.declared.terms.Binding.TheVariants.{Local, Global, Undefined, Common, Weak}
-use Rattle.oc_linking.specs.declared.terms.Patch.{Patch}
-use Rattle.oc_linking.specs.Images.{overlay}
+use Rattle.std.specs.{List.{AllByRecursion, enumerate_from, cons_option, position_or_len}, Option.{option_map, option_map_or, option_and_then}}
+use Rattle.std.proofs.lemmas.{Bool.{true≢false, false_from_ne_true}, List.{length-map}}
+use Rattle.oc_base.specs.{declared.format.Word.TheVariants.{W32}, declared.format.Format.TheVariants.{Omf}, Formats.{word_for}}
+use Rattle.oc_linking.specs.{declared.terms.Hint.TheVariants.{Plain, Call}, declared.terms.Binding.{Binding}}
+use Rattle.oc_linking.specs.{declared.terms.Binding.TheVariants.{Local, Global, Undefined, Common, Weak}, declared.terms.Patch.{Patch}, Images.{overlay}}
 use Rattle.oc_linking.specs.Parts.{is_local}
-use Rattle.oc_algebra.specs.declared.form.Form.{Form}
-use Rattle.oc_algebra.specs.Fields.{to_field_of}
-use Rattle.oc_algebra.specs.Residues.{reduced_number}
+use Rattle.oc_algebra.specs.{declared.form.Form.{Form}, Fields.{to_field_of}, Residues.{reduced_number}}
 use Rattle.oc_chains.specs.declared.field.Field as chains
 use Rattle.oc_chains.specs.Lists.{list_of}
-use Rattle.oc_neutral.specs.declared.section.Section.{Section}
-use Rattle.oc_neutral.specs.declared.symbol.Symbol.{Symbol}
-use Rattle.oc_neutral.specs.declared.reloc.Reloc.{Reloc}
-use Rattle.oc_neutral.specs.declared.reloc.Target.{Target}
-use Rattle.oc_neutral.specs.declared.reloc.Target.TheVariants as target
-use Rattle.oc_neutral.specs.Objects.{Object, reloc_at}
-use Rattle.oc_neutral.specs.Dressing.{is_common}
-use Rattle.oc_neutral.specs.Invariants.{IsObject}
-use Rattle.oc_neutral.specs.KeySymbols.{global_place}
-use Rattle.oc_shows.specs.Manners.{omf_manner}
-use Rattle.oc_neutral.specs.Normal.{Place, at_section, takes_section}
-use Rattle.oc_neutral.specs.Omf.Relocs.{BySelf}
-use Rattle.oc_neutral.specs.Rows.{Row, shift_of, same_hint}
-use Rattle.oc_neutral.specs.RelocTables.{rows_of}
-use Rattle.oc_shows.specs.Seen.{place_at, target_place, section_place, new_position, seen, seen_section, seen_binding, seen_field, seen_reloc, seen_target}
+use Rattle.oc_neutral.specs.{declared.section.Section.{Section}, declared.symbol.Symbol.{Symbol}, declared.reloc.Reloc.{Reloc}, declared.reloc.Target.{Target}}
+use Rattle.oc_neutral.specs.{Objects.{Object, reloc_at}, Dressing.{is_common}, Invariants.{IsObject}, KeySymbols.{global_place}}
+use Rattle.oc_neutral.specs.{Normal.{Place, at_section, takes_section}, Omf.Relocs.{BySelf}, Rows.{Row, shift_of, same_hint}, RelocTables.{rows_of}}
 use Rattle.oc_neutral.specs.Spelling.{written_row}
+use Rattle.oc_neutral.specs.declared.reloc.Target.TheVariants as target
+use Rattle.oc_shows.specs.Manners.{omf_manner}
+use Rattle.oc_shows.specs.Seen.{place_at, target_place, section_place, new_position, seen, seen_section, seen_binding, seen_field, seen_reloc, seen_target}
 use Rattle.oc_shows.specs.SymbolLines.{omf_lines, lines_of, is_undefined, is_global, one}
-use Rattle.oc_target.proofs.MeetsRelocs.{normal_of}
-use Rattle.oc_shows.proofs.SeenAlike.{relocs_same, stands}
-use Rattle.oc_shows.proofs.SeenLines.{IsShown}
-use Rattle.oc_target.proofs.SeenReady.{IsReady, omf_ready}
+use Rattle.oc_target.proofs.{MeetsRelocs.{normal_of}, SeenReady.{IsReady, omf_ready}}
+use Rattle.oc_shows.proofs.{SeenAlike.{relocs_same, stands}, SeenLines.{IsShown}, FoundLaws.{found_in}}
 use Rattle.oc_shelf.proofs.WritingLaws.MemberLemmas.{map-map, map-alike, of_filter}
-use Rattle.oc_omf.specs.declared.structures.Method.{Method}
-use Rattle.oc_omf.specs.declared.structures.Segment as read
-use Rattle.oc_omf.specs.declared.constants.TheConstants.{METHOD_EXTERNAL}
+use Rattle.oc_omf.specs.{declared.structures.Method.{Method}, declared.constants.TheConstants.{METHOD_EXTERNAL}}
 use Rattle.oc_omf.specs.Bytes.{entry_bytes, segment_bytes, communal_bytes, data_bytes, fixup_bytes}
-use Rattle.oc_omf_file.specs.Names.{class_of, with_name, names_of, filled_from}
-use Rattle.oc_omf_file.specs.Pieces.{offsets_of, pieces_upto, pieces_of, fields_between}
+use Rattle.oc_omf.specs.declared.structures.Segment as read
+use Rattle.oc_omf_file.specs.{Names.{class_of, with_name, names_of, filled_from}, Pieces.{offsets_of, pieces_upto, pieces_of, fields_between}}
 use Rattle.oc_omf_file.specs.Outputs.{Output, Header, Names, Segment, Group, External, Communal, Public, Data, Fixups, End, external_by, communal_by, public_by, external_output, communal_output, public_output, symbol_outputs, is_of_symbol, symbol_number, piece_outputs, data_outputs, segment_output, outputs_of}
 use Rattle.oc_omf_file.specs.Fixups.{written_reloc, row_by, number_or, number_by, field_number, field_patch, field_patches, raw_of, target_method, is_row, frame_method, fixup_by, field_fixup}
 use Rattle.oc_omf_file.specs.Canonical.{attributes_of, size_by, public_at, output_type, output_contents, output_bytes, omf_file}
-use Rattle.oc_omf_file.proofs.CodedLaws.{IsForOmf}
-use Rattle.oc_omf_file.proofs.LineLaws.{key_of, listed_at}
-use Rattle.oc_omf_file.proofs.SeenLaws.{shown, again, again_is, are_shown}
+use Rattle.oc_omf_file.proofs.{CodedLaws.{IsForOmf}, LineLaws.{key_of, listed_at}, SeenLaws.{shown, again, again_is, are_shown}}
 use Rattle.oc_canonical.proofs.MapLemmas.{enumerate_map, filter-append, filter-within, filter-apart, filter-mapped, flat_map-mapped, lists_map, map_append, map-flat_map}
 use Rattle.oc_canonical.proofs.SeenSymbols.{shown_ones, gathered, ones_gathered, gathered_append, gathered_where, moved, all_moved, outer_tell}
 use Rattle.oc_canonical.proofs.StaysLemmas.{plain_row}
-use Rattle.oc_shows.proofs.FoundLaws.{found_in}
 
 -- the first place that passes a test, of items that are changed
 position_map : {X Y : Type 0} (f : X → Y) (test : X → Bool) (tests : Y → Bool) (xs : List X) → ((k : ℕ) (x : X) → slice_get xs k ≡ Some x → tests (f x) ≡ test x)

@@ -1,67 +1,37 @@
 -- What of OMF is read where Debug sections are not kept, of a module that has none: the same.
 use Rattle.std.proofs.Common.{◌≡◌, ℕ, zero, suc, ◌+◌, Bool, true, false, cond, List, [], ◌∷◌, ◌++◌, map, take, filter_map, Option, Some, None, Result, Ok, Err, refl, sym, ◌∙◌, ap, subst}
 use mathlib.Core.Path.{fun_ext}
-use Rattle.std.specs.Prelude.{slice_get}
-use Rattle.std.specs.List.{AllByRecursion, enumerate_from, range_with_len}
+use Rattle.std.specs.{Prelude.{slice_get}, List.{AllByRecursion, enumerate_from, range_with_len}}
 use Rattle.std.specs.Option.{option_map, option_map_or, option_and_then, unwrap_or}
 use Rattle.std.proofs.lemmas.Option.{none-some, same_Some, slice_get-map}
-use Rattle.oc_linking.specs.declared.terms.Kind.{Kind}
-use Rattle.oc_linking.specs.declared.terms.Kind.TheVariants.{Code, ReadOnly, Data, Zero, Init, Fini, Debug, Exception, Note}
-use Rattle.oc_linking.specs.declared.terms.Keep.{Keep}
-use Rattle.oc_linking.specs.declared.terms.Patch.{Patch}
-use Rattle.oc_linking.specs.Images.{overlay}
-use Rattle.oc_linking.specs.Keeping.{all, keeps}
-use Rattle.oc_linking.specs.Linking.{flags_in}
+use Rattle.oc_linking.specs.{declared.terms.Kind.{Kind}, declared.terms.Kind.TheVariants.{Code, ReadOnly, Data, Zero, Init, Fini, Debug, Exception, Note}}
+use Rattle.oc_linking.specs.{declared.terms.Keep.{Keep}, declared.terms.Patch.{Patch}, Images.{overlay}, Keeping.{all, keeps}, Linking.{flags_in}}
+use Rattle.oc_linking.specs.{Shows.{unders}, Fits.{bytes_of}, Placing.{zeros}, Linking.{patch_of}}
 use Rattle.oc_linking.specs.Parts as parts
-use Rattle.oc_linking.specs.Shows.{unders}
-use Rattle.oc_base.specs.Formats.{word_for}
+use Rattle.oc_base.specs.{Formats.{word_for}, declared.format.Format.TheVariants.{Omf}}
 use Rattle.oc_chains.specs.declared.field.Field.{Field}
-use Rattle.oc_neutral.specs.declared.section.Section.{Section}
-use Rattle.oc_neutral.specs.declared.reloc.Reloc.{Reloc}
-use Rattle.oc_neutral.specs.Objects.{Object}
-use Rattle.oc_neutral.specs.Building.{is_zero}
-use Rattle.oc_shows.specs.Computed.{zero_values, zero_patches, computed_section, computed_symbol, reloc_for, computed_field, computed_fields, object_in}
+use Rattle.oc_neutral.specs.{declared.section.Section.{Section}, declared.reloc.Reloc.{Reloc}, Objects.{Object}, Building.{is_zero}}
 use Rattle.oc_neutral.specs.Dialects.{Look, kept_fields, is_difference, is_folded, look_of, looks_in, patches_in}
 use Rattle.oc_neutral.specs.Faces.{shown_sections, shown_section, frame_of}
+use Rattle.oc_shows.specs.Computed.{zero_values, zero_patches, computed_section, computed_symbol, reloc_for, computed_field, computed_fields, object_in}
+use Rattle.oc_shows.specs.{Seen.{seen, seen_section}, Manners.{omf_manner}, Shows.{Shows}}
 use Rattle.oc_target.specs.Fitted.{IsFitted}
-use Rattle.oc_shows.specs.Seen.{seen, seen_section}
-use Rattle.oc_shows.specs.Manners.{omf_manner}
-use Rattle.oc_shows.specs.Shows.{Shows}
-use Rattle.oc_linking.specs.Fits.{bytes_of}
-use Rattle.oc_linking.specs.Placing.{zeros}
-use Rattle.oc_linking.specs.Linking.{patch_of}
-use Rattle.oc_base.specs.declared.format.Format.TheVariants.{Omf}
 use Rattle.oc_target.proofs.SeenLaws.{seen_is_object_law}
 use Rattle.oc_shows.proofs.ShownComputed.{shown_is_computed}
 use Rattle.oc_names.specs.Wishes.{no_wishes}
 use Rattle.oc_convert.specs.Refusals.{kept_of_file}
-use Rattle.oc_shelf.proofs.ReadingLaws.StageLemmas.{Unbroken, IsUnbroken, no_first_fault}
-use Rattle.oc_shelf.proofs.WritingLaws.MemberLemmas.{of_map}
-use Rattle.oc_omf.specs.declared.structures.Subrecord.{Subrecord}
-use Rattle.oc_omf.specs.declared.structures.Subrecord.TheVariants as subrecord
-use Rattle.oc_omf.specs.declared.cut.Cut.{Cut}
-use Rattle.oc_omf.specs.Entries.{Entry, entries_in}
-use Rattle.oc_omf.specs.Fields.{fields_in}
-use Rattle.oc_omf.specs.Fixups.{PlacedSubrecord, subrecords_by, subrecords_upto, Fixed, fixed_of, fixed_in}
-use Rattle.oc_omf.specs.Targets.{Meaning, meaning_of}
-use Rattle.oc_omf.specs.Tables.{Tables, indexed}
-use Rattle.oc_omf.specs.Structures.{Piece}
-use Rattle.oc_omf.specs.declared.structures.Segment.{Segment}
-use Rattle.oc_omf.specs.Sections.{segment_kind}
+use Rattle.oc_shelf.proofs.{ReadingLaws.StageLemmas.{Unbroken, IsUnbroken, no_first_fault}, WritingLaws.MemberLemmas.{of_map}}
+use Rattle.oc_omf.specs.{declared.structures.Subrecord.{Subrecord}, declared.cut.Cut.{Cut}, Entries.{Entry, entries_in}, Fields.{fields_in}}
+use Rattle.oc_omf.specs.{Fixups.{PlacedSubrecord, subrecords_by, subrecords_upto, Fixed, fixed_of, fixed_in}, Targets.{Meaning, meaning_of}}
+use Rattle.oc_omf.specs.{Tables.{Tables, indexed}, Structures.{Piece}, declared.structures.Segment.{Segment}, Sections.{segment_kind}}
 use Rattle.oc_omf.specs.SymbolFaults.{symbol_stages}
-use Rattle.oc_omf.specs.RelocationFaults as faults
 use Rattle.oc_omf.specs.RelocationFaults.{is_judged, fixup_conditions, part_conditions, relocation_conditions, relocation_stage, relocation_stages}
 use Rattle.oc_omf.specs.Rules.{omf_rules, omf_dialect, stages_of, fault_of}
+use Rattle.oc_omf.specs.declared.structures.Subrecord.TheVariants as subrecord
+use Rattle.oc_omf.specs.RelocationFaults as faults
 use Rattle.oc_omf_file.specs.Canonical.{omf_file}
-use Rattle.oc_omf_file.proofs.CodedLaws.{IsForOmf, for_omf}
-use Rattle.oc_omf_file.proofs.FixedLaws.{entries}
-use Rattle.oc_omf_file.proofs.ListLemmas.{all_both}
-use Rattle.oc_omf_file.proofs.ShowsLaw.{read}
-use Rattle.oc_omf_file.proofs.SeenLaws.{again_is}
-use Rattle.oc_omf_file.proofs.HeaderClean.{header_clean}
-use Rattle.oc_omf_file.proofs.SectionClean.{sections_clean}
-use Rattle.oc_omf_file.proofs.SymbolClean.{symbols_clean}
-use Rattle.oc_omf_file.proofs.RelocationClean.{relocations_clean}
+use Rattle.oc_omf_file.proofs.{CodedLaws.{IsForOmf, for_omf}, FixedLaws.{entries}, ListLemmas.{all_both}, ShowsLaw.{read}, SeenLaws.{again_is}}
+use Rattle.oc_omf_file.proofs.{HeaderClean.{header_clean}, SectionClean.{sections_clean}, SymbolClean.{symbols_clean}, RelocationClean.{relocations_clean}}
 use Rattle.oc_omf_file.proofs.WrittenLaw.{omf_is_written}
 use Rattle.oc_canonical.proofs.OmfStays.{IsClassed, classed}
 use Rattle.oc_canonical.specs.Stable.{IsReadBack}

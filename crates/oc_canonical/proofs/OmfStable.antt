@@ -1,9 +1,7 @@
 -- Canonical OMF modules are read back.
 use Rattle.oc_omf_file.proofs.CodedLaws.{for_omf}
-use Rattle.oc_canonical.proofs.OmfAgain.{omf_file_again}
-use Rattle.oc_canonical.proofs.OmfStays.{object, omf_seen_fitted}
+use Rattle.oc_canonical.proofs.{OmfAgain.{omf_file_again}, OmfStays.{object, omf_seen_fitted}, OmfOwn.{omf_own}}
 use Rattle.oc_canonical.specs.Stable.{OmfReadsBack}
-use Rattle.oc_canonical.proofs.OmfOwn.{omf_own}
 
 pub omf_reads_back : OmfReadsBack
 omf_reads_back = record {

@@ -1,44 +1,21 @@
 -- What is seen of an object that is ready for OMF is ready for OMF.
 use Rattle.std.proofs.Common.{◌≡◌, ℕ, Bool, true, false, not, ◌&&◌, ◌||◌, nat_lt, List, length, is_none, Some, refl, sym, ◌∙◌, ap, subst, arith}
-use Rattle.std.specs.Prelude.{slice_get, count_by}
-use Rattle.std.specs.Option.{option_map, option_map_or}
-use Rattle.std.proofs.lemmas.Bool.{eq-eqb, or_parts, or_from}
-use Rattle.std.proofs.lemmas.Option.{none-some}
-use Rattle.oc_base.specs.declared.format.Format.TheVariants.{Omf}
-use Rattle.oc_base.specs.declared.fault.Spot.{Spot}
-use Rattle.oc_linking.specs.declared.terms.Kind.{Kind}
-use Rattle.oc_linking.specs.declared.terms.Kind.TheVariants.{Code, ReadOnly, Data, Zero, Init, Fini, Debug, Exception, Note}
-use Rattle.oc_linking.specs.declared.terms.Binding.{Binding}
-use Rattle.oc_linking.specs.declared.terms.Binding.TheVariants.{Local, Global, Undefined, Common, Weak}
-use Rattle.oc_linking.specs.declared.terms.Hint.TheVariants.{Plain}
-use Rattle.oc_linking.specs.Parts.{is_local}
+use Rattle.std.specs.{Prelude.{slice_get, count_by}, Option.{option_map, option_map_or}}
+use Rattle.std.proofs.lemmas.{Bool.{eq-eqb, or_parts, or_from}, Option.{none-some}}
+use Rattle.oc_base.specs.{declared.format.Format.TheVariants.{Omf}, declared.fault.Spot.{Spot}}
+use Rattle.oc_linking.specs.{declared.terms.Kind.{Kind}, declared.terms.Kind.TheVariants.{Code, ReadOnly, Data, Zero, Init, Fini, Debug, Exception, Note}}
+use Rattle.oc_linking.specs.{declared.terms.Binding.{Binding}, declared.terms.Binding.TheVariants.{Local, Global, Undefined, Common, Weak}}
+use Rattle.oc_linking.specs.{declared.terms.Hint.TheVariants.{Plain}, Parts.{is_local}}
 use Rattle.oc_algebra.specs.declared.form.Form.{Form}
-use Rattle.oc_neutral.specs.declared.section.Section.{Section}
-use Rattle.oc_neutral.specs.declared.symbol.Symbol.{Symbol}
-use Rattle.oc_neutral.specs.declared.reloc.Reloc.{Reloc}
-use Rattle.oc_neutral.specs.Objects.{Object, reloc_at}
-use Rattle.oc_neutral.specs.Bindings.{is_external}
+use Rattle.oc_neutral.specs.{declared.section.Section.{Section}, declared.symbol.Symbol.{Symbol}, declared.reloc.Reloc.{Reloc}, Objects.{Object, reloc_at}}
+use Rattle.oc_neutral.specs.{Bindings.{is_external}, Invariants.{IsObject}, KindRules.{same_kind}, Omf.Family.{omf_gives, is_too_long}, Omf.Kinds.{omf_class}}
+use Rattle.oc_neutral.specs.{Rows.{Row}, Shifts.{field_shift}, Spelling.{numbers_in, spelling_of}, TargetRelocations.{reloc_conditions}}
 use Rattle.oc_target.specs.Fitted.{IsFitted}
-use Rattle.oc_neutral.specs.Invariants.{IsObject}
-use Rattle.oc_neutral.specs.KindRules.{same_kind}
-use Rattle.oc_shows.specs.Manners.{omf_manner}
-use Rattle.oc_neutral.specs.Omf.Family.{omf_gives, is_too_long}
-use Rattle.oc_neutral.specs.Omf.Kinds.{omf_class}
-use Rattle.oc_neutral.specs.Rows.{Row}
-use Rattle.oc_shows.specs.Seen.{seen, seen_symbol, seen_binding, seen_reloc}
-use Rattle.oc_neutral.specs.Shifts.{field_shift}
-use Rattle.oc_neutral.specs.Spelling.{numbers_in, spelling_of}
-use Rattle.oc_neutral.specs.TargetRelocations.{reloc_conditions}
-use Rattle.oc_target.proofs.MeetsConditions.{AreMet, reloc_met}
-use Rattle.oc_target.proofs.SeenLaws.{seen_is_object_law}
-use Rattle.oc_shows.proofs.SeenLines.{IsShown}
-use Rattle.oc_shows.proofs.SeenAlike.{seen_local}
-use Rattle.oc_target.proofs.SeenReady.{IsReady, omf_ready}
-use Rattle.oc_omf_file.proofs.CodedLaws.{IsForOmf, for_omf}
-use Rattle.oc_omf_file.proofs.SeenLaws.{shown, again, again_is, are_shown}
-use Rattle.oc_canonical.proofs.OmfAgain.{plain_rows, form_same}
-use Rattle.oc_canonical.proofs.SeenSums.{seen_count}
-use Rattle.oc_canonical.proofs.SeenFitted.{FamilyStays, seen_fitted}
+use Rattle.oc_shows.specs.{Manners.{omf_manner}, Seen.{seen, seen_symbol, seen_binding, seen_reloc}}
+use Rattle.oc_target.proofs.{MeetsConditions.{AreMet, reloc_met}, SeenLaws.{seen_is_object_law}, SeenReady.{IsReady, omf_ready}}
+use Rattle.oc_shows.proofs.{SeenLines.{IsShown}, SeenAlike.{seen_local}}
+use Rattle.oc_omf_file.proofs.{CodedLaws.{IsForOmf, for_omf}, SeenLaws.{shown, again, again_is, are_shown}}
+use Rattle.oc_canonical.proofs.{OmfAgain.{plain_rows, form_same}, SeenSums.{seen_count}, SeenFitted.{FamilyStays, seen_fitted}}
 use Rattle.oc_canonical.proofs.StaysLemmas.{sections_long, target_stays, plain_row}
 use Rattle.oc_elf_file.proofs.HeaderClean.{within_file}
 

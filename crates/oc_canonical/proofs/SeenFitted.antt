@@ -1,50 +1,27 @@
 -- What is seen of an object that is ready for a target is ready for it, where the family's conditions stay.
 use Rattle.std.proofs.Common.{◌≡◌, ℕ, zero, suc, ◌+◌, ◌<◌, ◌≤◌, Bool, true, false, cond, not, ◌&&◌, ◌||◌, nat_lt, List, [], ◌∷◌, ◌++◌, length, map, get_or, sum_by, Option, Some, None, inl, inr, refl, sym, ◌∙◌, ap, subst, arith}
-use Rattle.std.specs.Prelude.{slice_get}
-use Rattle.std.specs.List.{AllByRecursion, enumerate_from}
-use Rattle.std.specs.Option.{option_map, option_map_or}
-use Rattle.std.proofs.lemmas.Bool.{or_right}
-use Rattle.std.proofs.lemmas.Bool.Decides.{nat_tests}
-use Rattle.std.proofs.lemmas.List.Sums.{sum_by-cons}
+use Rattle.std.specs.{Prelude.{slice_get}, List.{AllByRecursion, enumerate_from}, Option.{option_map, option_map_or}}
+use Rattle.std.proofs.lemmas.{Bool.{or_right}, Bool.Decides.{nat_tests}, List.Sums.{sum_by-cons}}
 use Rattle.std.proofs.lemmas.Option.{none-some, same_Some, slice_get-map, get_or_from_slice_get}
-use Rattle.oc_base.specs.declared.format.Format.{Format}
-use Rattle.oc_base.specs.declared.fault.Spot.{Spot}
-use Rattle.oc_linking.specs.declared.terms.Fallback.{Fallback}
-use Rattle.oc_linking.specs.declared.terms.Kind.TheVariants.{Debug, Exception}
-use Rattle.oc_linking.specs.declared.terms.Binding.{Binding}
+use Rattle.oc_base.specs.{declared.format.Format.{Format}, declared.fault.Spot.{Spot}}
+use Rattle.oc_linking.specs.{declared.terms.Fallback.{Fallback}, declared.terms.Kind.TheVariants.{Debug, Exception}, declared.terms.Binding.{Binding}}
 use Rattle.oc_linking.specs.declared.terms.Binding.TheVariants.{Local, Global, Undefined, Common, Weak}
-use Rattle.oc_chains.specs.declared.field.Field.{Field}
-use Rattle.oc_chains.specs.Lists.{Lists, list_of}
-use Rattle.oc_neutral.specs.declared.section.Section.{Section}
-use Rattle.oc_neutral.specs.declared.symbol.Symbol.{Symbol}
-use Rattle.oc_neutral.specs.declared.reloc.Reloc.{Reloc}
-use Rattle.oc_neutral.specs.Objects.{Object, reloc_at}
-use Rattle.oc_neutral.specs.Alignments.{output_align}
-use Rattle.oc_neutral.specs.Families.{family_of, container_of, same_format}
-use Rattle.oc_target.specs.Fitted.{IsFitted, IsNamed, first_unfit, fitted_binding}
-use Rattle.oc_neutral.specs.GivenTags.{can_have}
-use Rattle.oc_neutral.specs.HomeNames.{is_home, output_names}
-use Rattle.oc_neutral.specs.Invariants.{IsObject}
-use Rattle.oc_neutral.specs.KindRules.{same_kind}
-use Rattle.oc_shows.specs.Manners.{Manner}
-use Rattle.oc_shows.specs.Readable.{IsBlankWhereTyped}
-use Rattle.oc_shows.specs.Seen.{seen_with, seen_section, seen_symbol, seen_binding, seen_fallback, seen_reloc, seen_field}
-use Rattle.oc_neutral.specs.Stored.{is_stored}
+use Rattle.oc_chains.specs.{declared.field.Field.{Field}, Lists.{Lists, list_of}}
+use Rattle.oc_neutral.specs.{declared.section.Section.{Section}, declared.symbol.Symbol.{Symbol}, declared.reloc.Reloc.{Reloc}, Objects.{Object, reloc_at}}
+use Rattle.oc_neutral.specs.{Alignments.{output_align}, Families.{family_of, container_of, same_format}, GivenTags.{can_have}}
+use Rattle.oc_neutral.specs.{HomeNames.{is_home, output_names}, Invariants.{IsObject}, KindRules.{same_kind}, Stored.{is_stored}}
 use Rattle.oc_neutral.specs.TargetSections.{judged, section_counts, section_count, is_debug_kept, is_exception_kept, section_spot, section_conditions, conditions_at, section_stages}
 use Rattle.oc_neutral.specs.TargetSymbols.{bounded, limited, names_length, symbol_count, is_absolute_form, is_common_form, is_weak_form, symbol_conditions, symbol_stages}
-use Rattle.oc_neutral.specs.TargetSections as sections_of_target
 use Rattle.oc_neutral.specs.TargetRelocations.{PlacedReloc, placed_relocs_in, placed_relocs_from, placed_relocs, spot_of, reloc_conditions, standing_conditions, relocation_stages}
-use Rattle.oc_target.proofs.MeetsConditions.{AreMet, section_met, symbol_met, symbol_count_met, own_names, same_format-self}
-use Rattle.oc_target.proofs.MeetsCounts.{met_parts}
-use Rattle.oc_neutral.proofs.Positions.{each_at, there_at}
-use Rattle.oc_shows.proofs.SeenAlike.{symbol_from, relocs_same}
-use Rattle.oc_shows.proofs.SeenLines.{IsShown}
-use Rattle.oc_neutral.proofs.Mapped.{all_from, list_map}
-use Rattle.oc_neutral.proofs.LeftObject.{sum_map}
-use Rattle.oc_shelf.proofs.ReadingLaws.StageLemmas.{Unbroken, unbroken_append, no_first_fault}
-use Rattle.oc_shelf.proofs.WritingLaws.MemberLemmas.{of_map, of_append}
+use Rattle.oc_target.specs.Fitted.{IsFitted, IsNamed, first_unfit, fitted_binding}
+use Rattle.oc_shows.specs.{Manners.{Manner}, Readable.{IsBlankWhereTyped}}
+use Rattle.oc_shows.specs.Seen.{seen_with, seen_section, seen_symbol, seen_binding, seen_fallback, seen_reloc, seen_field}
+use Rattle.oc_neutral.specs.TargetSections as sections_of_target
+use Rattle.oc_target.proofs.{MeetsConditions.{AreMet, section_met, symbol_met, symbol_count_met, own_names, same_format-self}, MeetsCounts.{met_parts}}
+use Rattle.oc_neutral.proofs.{Positions.{each_at, there_at}, Mapped.{all_from, list_map}, LeftObject.{sum_map}}
+use Rattle.oc_shows.proofs.{SeenAlike.{symbol_from, relocs_same}, SeenLines.{IsShown}, FoundLaws.{found_in}}
+use Rattle.oc_shelf.proofs.{ReadingLaws.StageLemmas.{Unbroken, unbroken_append, no_first_fault}, WritingLaws.MemberLemmas.{of_map, of_append}}
 use Rattle.oc_canonical.proofs.SeenSums.{seen_sum, seen_few}
-use Rattle.oc_shows.proofs.FoundLaws.{found_in}
 
 -- what stands among the relocations of sections
 record IsFrom (s : ℕ) (lists : Lists Reloc) (z : PlacedReloc) : Type 0 where

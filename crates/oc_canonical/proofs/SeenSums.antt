@@ -1,21 +1,13 @@
 -- Sums over the symbols that are seen are at most those over the symbols of the object.
 use Rattle.std.proofs.Common.{◌≡◌, ◌≢◌, ℕ, suc, ◌+◌, ◌<◌, ◌≤◌, cond, List, [], ◌∷◌, length, sum_by, count_by, Option, Some, None, refl, sym, ◌∙◌, ap, arith, Bool}
-use Rattle.std.specs.Prelude.{slice_get}
-use Rattle.std.specs.List.{enumerate_from, cons_option}
-use Rattle.std.specs.Option.{option_map}
-use Rattle.std.proofs.lemmas.List.Sums.{sum_by-cons}
-use Rattle.std.proofs.lemmas.Option.{none-some, same_Some}
-use Rattle.oc_neutral.specs.declared.symbol.Symbol.{Symbol}
-use Rattle.oc_neutral.specs.Objects.{Object}
-use Rattle.oc_shows.specs.Manners.{Manner}
-use Rattle.oc_shows.specs.Seen.{seen_symbol, seen_symbols}
+use Rattle.std.specs.{Prelude.{slice_get}, List.{enumerate_from, cons_option}, Option.{option_map}}
+use Rattle.std.proofs.lemmas.{List.Sums.{sum_by-cons}, Option.{none-some, same_Some}}
+use Rattle.oc_neutral.specs.{declared.symbol.Symbol.{Symbol}, Objects.{Object}}
+use Rattle.oc_shows.specs.{Manners.{Manner}, Seen.{seen_symbol, seen_symbols}}
 use Rattle.oc_shows.proofs.SeenLines.{IsShown}
-use Rattle.oc_neutral.proofs.Mapped.{all_from}
-use Rattle.oc_neutral.proofs.LeftObject.{sum_map}
-use Rattle.oc_shelf.proofs.WritingLaws.MemberLemmas.{of_filter_map}
-use Rattle.oc_shelf.proofs.WritingLaws.SizeLemmas.{sum_enumerated}
-use Rattle.oc_canonical.proofs.SeenSymbols.{with_position, shown_ones, number_in, moved, one_there, symbols_moved}
-use Rattle.oc_canonical.proofs.SumLemmas.{AreApart, AreOf, sum_apart}
+use Rattle.oc_neutral.proofs.{Mapped.{all_from}, LeftObject.{sum_map}}
+use Rattle.oc_shelf.proofs.{WritingLaws.MemberLemmas.{of_filter_map}, WritingLaws.SizeLemmas.{sum_enumerated}}
+use Rattle.oc_canonical.proofs.{SeenSymbols.{with_position, shown_ones, number_in, moved, one_there, symbols_moved}, SumLemmas.{AreApart, AreOf, sum_apart}}
 
 -- sums of the same
 sum_same : {X : Type 0} (f g : X → ℕ) (xs : List X) → ((k : ℕ) (x : X) → slice_get xs k ≡ Some x → f x ≡ g x) → sum_by f xs ≡ sum_by g xs

@@ -1,17 +1,12 @@
 -- The symbols that are seen of an object with their positions are those of its lines, moved: so what passes a test stands in the same order.
 use Rattle.std.proofs.Common.{◌≡◌, ℕ, zero, suc, ◌+◌, Bool, true, false, eqb, List, [], ◌∷◌, ◌++◌, map, get_or, Option, Some, None, refl, sym, ◌∙◌, ap, arith}
-use Rattle.std.specs.Prelude.{slice_get, filter, filter_map, flat_map, nat_eq, replicate}
-use Rattle.std.specs.List.{enumerate_from, cons_option, list_any}
+use Rattle.std.specs.{Prelude.{slice_get, filter, filter_map, flat_map, nat_eq, replicate}, List.{enumerate_from, cons_option, list_any}}
 use Rattle.std.specs.Option.{option_map, option_map_or, option_and_then}
-use Rattle.std.proofs.lemmas.Bool.{true≢false, eq-eqb, eqb-true, ne_eqb}
-use Rattle.oc_linking.specs.Parts.{is_local}
-use Rattle.std.proofs.lemmas.Option.{none-some, same_Some, get_or_from_slice_get}
+use Rattle.std.proofs.lemmas.{Bool.{true≢false, eq-eqb, eqb-true, ne_eqb}, Option.{none-some, same_Some, get_or_from_slice_get}}
 use Rattle.std.proofs.lemmas.List.Elements.{filter_map-append}
-use Rattle.oc_neutral.specs.declared.symbol.Symbol.{Symbol}
-use Rattle.oc_neutral.specs.Objects.{Object}
-use Rattle.oc_shows.specs.Manners.{Manner}
-use Rattle.oc_shows.specs.Seen.{shown_from, new_position, seen_symbol, seen_symbols}
-use Rattle.oc_shows.specs.SymbolLines.{Line, silent, lines_where}
+use Rattle.oc_linking.specs.Parts.{is_local}
+use Rattle.oc_neutral.specs.{declared.symbol.Symbol.{Symbol}, Objects.{Object}}
+use Rattle.oc_shows.specs.{Manners.{Manner}, Seen.{shown_from, new_position, seen_symbol, seen_symbols}, SymbolLines.{Line, silent, lines_where}}
 use Rattle.oc_shows.proofs.SeenLines.{IsShown}
 use Rattle.oc_shelf.proofs.WritingLaws.MemberLemmas.{position_first, filter_map-map, of_filter_map, map-map, map-alike, of_filter, of_enumerated}
 use Rattle.oc_canonical.proofs.MapLemmas.{filter-mapped, is_filled, filled_map, any_filled, filter_numbered, flat_map-mapped}

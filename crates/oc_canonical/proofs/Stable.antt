@@ -1,48 +1,26 @@
 -- The canonical file of each object that is ready is given again by a conversion to its own format.
 use Rattle.std.proofs.Common.{◌≡◌, ℕ, List, Ok, refl, sym, ◌∙◌, ap}
-use Rattle.oc_linking.specs.declared.terms.Keep.{Keep}
-use Rattle.oc_linking.specs.Keeping.{all, keeps}
-use Rattle.oc_linking.specs.Numbers.{or_else}
-use Rattle.oc_neutral.specs.Objects.{Object}
-use Rattle.oc_shows.specs.Computed.{object_in}
-use Rattle.oc_neutral.specs.Dialects.{Dialect}
-use Rattle.oc_target.specs.Fitted.{IsFitted}
-use Rattle.oc_target.specs.Fitting.{fit_of}
-use Rattle.oc_shows.specs.Seen.{seen}
-use Rattle.oc_target.specs.Targets.{WritesCanonical}
+use Rattle.oc_linking.specs.{declared.terms.Keep.{Keep}, Keeping.{all, keeps}, Numbers.{or_else}}
+use Rattle.oc_neutral.specs.{Objects.{Object}, Dialects.{Dialect}}
+use Rattle.oc_shows.specs.{Computed.{object_in}, Seen.{seen}}
+use Rattle.oc_target.specs.{Fitted.{IsFitted}, Fitting.{fit_of}, Targets.{WritesCanonical}}
 use Rattle.oc_target.proofs.SeenLaws.{seen_is_object_law}
 use Rattle.oc_shows.proofs.ShownComputed.{shown_is_computed}
-use Rattle.oc_names.specs.Wishes.{no_wishes}
-use Rattle.oc_names.specs.Edited.{edited}
-use Rattle.oc_names.specs.Kept.{keep_for}
-use Rattle.oc_convert.specs.Refusals.{object_refusal, edited_refusal, kept_of_file}
-use Rattle.oc_convert.specs.Converted.{on_ok}
-use Rattle.oc_elf.specs.declared.class.ElfClass.{ElfClass}
-use Rattle.oc_elf.specs.declared.class.ElfClass.TheVariants.{Class32, Class64, Big32, Big64}
-use Rattle.oc_elf.specs.Elf.{elf_dialect}
+use Rattle.oc_names.specs.{Wishes.{no_wishes}, Edited.{edited}, Kept.{keep_for}}
+use Rattle.oc_convert.specs.{Refusals.{object_refusal, edited_refusal, kept_of_file}, Converted.{on_ok}}
+use Rattle.oc_elf.specs.{declared.class.ElfClass.{ElfClass}, declared.class.ElfClass.TheVariants.{Class32, Class64, Big32, Big64}, Elf.{elf_dialect}}
 use Rattle.oc_elf_file.specs.Canonical.{elf_file}
-use Rattle.oc_elf_file.proofs.CodedLaws.{for_elf}
-use Rattle.oc_elf_file.proofs.WrittenLaw.{elf_is_written}
+use Rattle.oc_elf_file.proofs.{CodedLaws.{for_elf}, WrittenLaw.{elf_is_written}}
 use Rattle.oc_names.proofs.Unedited.{nothing_edited}
-use Rattle.oc_canonical.proofs.FittedStays.{fitted_stays}
-use Rattle.oc_canonical.proofs.ElfAgain.{elf_file_again}
-use Rattle.oc_canonical.proofs.ElfStays.{elf_seen_fitted}
-use Rattle.oc_base.specs.declared.format.Word.{Word}
-use Rattle.oc_base.specs.declared.format.Word.TheVariants.{W32, W64}
-use Rattle.oc_coff.specs.declared.form.CoffForm.{CoffForm}
-use Rattle.oc_coff.specs.declared.form.CoffForm.TheVariants.{Usual32, Usual64, Big32, Big64}
-use Rattle.oc_coff.specs.Rules.{coff_dialect}
+use Rattle.oc_canonical.proofs.{FittedStays.{fitted_stays}, ElfAgain.{elf_file_again}, ElfStays.{elf_seen_fitted}, CoffAgain.{coff_file_again}}
+use Rattle.oc_canonical.proofs.{CoffStays.{coff_seen_fitted}, MachAgain.{mach_file_again}, MachStays.{mach_seen_fitted}}
+use Rattle.oc_base.specs.{declared.format.Word.{Word}, declared.format.Word.TheVariants.{W32, W64}}
+use Rattle.oc_coff.specs.{declared.form.CoffForm.{CoffForm}, declared.form.CoffForm.TheVariants.{Usual32, Usual64, Big32, Big64}, Rules.{coff_dialect}}
 use Rattle.oc_coff_file.specs.Canonical.{coff_file}
-use Rattle.oc_coff_file.proofs.CodedLaws.{for_coff}
-use Rattle.oc_coff_file.proofs.WrittenLaw.{coff_is_written}
-use Rattle.oc_canonical.proofs.CoffAgain.{coff_file_again}
-use Rattle.oc_canonical.proofs.CoffStays.{coff_seen_fitted}
+use Rattle.oc_coff_file.proofs.{CodedLaws.{for_coff}, WrittenLaw.{coff_is_written}}
 use Rattle.oc_macho.specs.Rules.{mach_dialect}
 use Rattle.oc_macho_file.specs.Canonical.{mach_file}
-use Rattle.oc_macho_file.proofs.CodedLaws.{for_mach}
-use Rattle.oc_macho_file.proofs.WrittenLaw.{mach_is_written}
-use Rattle.oc_canonical.proofs.MachAgain.{mach_file_again}
-use Rattle.oc_canonical.proofs.MachStays.{mach_seen_fitted}
+use Rattle.oc_macho_file.proofs.{CodedLaws.{for_mach}, WrittenLaw.{mach_is_written}}
 use Rattle.oc_canonical.specs.Stable.{IsStable, IsReadBack, ReadsBack, CanonicalIsStable, ElfReadsBack, CoffReadsBack, MachReadsBack}
 use Rattle.oc_linking.proofs.Whole.{keeps-all}
 

@@ -1,39 +1,23 @@
 -- What stays of the conditions of all families where an object is seen.
 use Rattle.std.proofs.Common.{◌≡◌, ℕ, suc, ◌+◌, ◌≤◌, Bool, true, false, cond, not, ◌&&◌, ◌||◌, List, [], ◌∷◌, length, map, Option, Some, None, refl, sym, ◌∙◌, ap}
-use Rattle.std.specs.Prelude.{find}
-use Rattle.std.specs.List.{AllByRecursion, enumerate_from, list_any}
-use Rattle.std.specs.Option.{option_map_or}
-use Rattle.oc_base.specs.declared.format.Format.{Format}
-use Rattle.oc_base.specs.Formats.{word_for}
-use Rattle.oc_linking.specs.declared.terms.Base.{Base}
+use Rattle.std.specs.{Prelude.{find}, List.{AllByRecursion, enumerate_from, list_any}, Option.{option_map_or}}
+use Rattle.oc_base.specs.{declared.format.Format.{Format}, Formats.{word_for}}
+use Rattle.oc_linking.specs.{declared.terms.Base.{Base}, declared.terms.Fallback.{Fallback}, declared.terms.Binding.{Binding}}
+use Rattle.oc_linking.specs.{declared.terms.Binding.TheVariants.{Local, Global, Undefined, Common, Weak}, declared.terms.Hint.{Hint}}
+use Rattle.oc_linking.specs.{declared.terms.Hint.TheVariants.{Plain, Call}, Numbers.{or_else}}
 use Rattle.oc_linking.specs.declared.terms.Base.TheVariants as base
-use Rattle.oc_linking.specs.declared.terms.Fallback.{Fallback}
 use Rattle.oc_linking.specs.declared.terms.Fallback.TheVariants as fallback
-use Rattle.oc_linking.specs.declared.terms.Binding.{Binding}
-use Rattle.oc_linking.specs.declared.terms.Binding.TheVariants.{Local, Global, Undefined, Common, Weak}
 use Rattle.oc_algebra.specs.declared.form.Form.{Form}
 use Rattle.oc_chains.specs.Lists.{list_of}
-use Rattle.oc_neutral.specs.declared.section.Section.{Section}
-use Rattle.oc_neutral.specs.declared.symbol.Symbol.{Symbol}
-use Rattle.oc_neutral.specs.declared.reloc.Reloc.{Reloc}
-use Rattle.oc_neutral.specs.declared.reloc.Target.{Target}
-use Rattle.oc_neutral.specs.declared.reloc.Target.TheVariants as target
-use Rattle.oc_neutral.specs.Objects.{Object, reloc_at}
-use Rattle.oc_neutral.specs.Bindings.{is_zero}
-use Rattle.oc_shows.specs.Manners.{Manner}
-use Rattle.oc_neutral.specs.Normal.{Place, at_section}
-use Rattle.oc_neutral.specs.Relocated.{stays, is_relocated}
+use Rattle.oc_neutral.specs.{declared.section.Section.{Section}, declared.symbol.Symbol.{Symbol}, declared.reloc.Reloc.{Reloc}, declared.reloc.Target.{Target}}
+use Rattle.oc_neutral.specs.{Objects.{Object, reloc_at}, Bindings.{is_zero}, Normal.{Place, at_section}, Relocated.{stays, is_relocated}}
 use Rattle.oc_neutral.specs.Rows.{Row, Taken, TakesPlace, TakesSection, taken_of, same_base, same_width, same_check, same_taken, same_hint}
-use Rattle.oc_neutral.specs.RelocTables.{rows_of}
-use Rattle.oc_neutral.specs.Spelling.{is_written, row_taking, written_row}
-use Rattle.oc_linking.specs.declared.terms.Hint.{Hint}
-use Rattle.oc_linking.specs.declared.terms.Hint.TheVariants.{Plain, Call}
-use Rattle.oc_linking.specs.Numbers.{or_else}
-use Rattle.oc_shows.specs.Seen.{place_at, new_position, section_place, seen_with, seen_section, seen_binding, seen_fallback, seen_target, seen_reloc, seen_field}
-use Rattle.oc_neutral.specs.Stored.{is_stored}
+use Rattle.oc_neutral.specs.{RelocTables.{rows_of}, Spelling.{is_written, row_taking, written_row}, Stored.{is_stored}}
 use Rattle.oc_neutral.specs.TargetRelocations.{is_local_number, is_homeless, is_nonlocal, is_target, needs_slot, needs_home, is_wrong_target}
-use Rattle.oc_shows.proofs.SeenAlike.{stands, seen_local}
-use Rattle.oc_shows.proofs.SeenLines.{IsShown}
+use Rattle.oc_neutral.specs.declared.reloc.Target.TheVariants as target
+use Rattle.oc_shows.specs.Manners.{Manner}
+use Rattle.oc_shows.specs.Seen.{place_at, new_position, section_place, seen_with, seen_section, seen_binding, seen_fallback, seen_target, seen_reloc, seen_field}
+use Rattle.oc_shows.proofs.{SeenAlike.{stands, seen_local}, SeenLines.{IsShown}}
 use Rattle.oc_neutral.proofs.Mapped.{list_map}
 use Rattle.oc_target.proofs.SeenReady.{IsReady}
 use Rattle.oc_canonical.proofs.MapLemmas.{any_mapped}

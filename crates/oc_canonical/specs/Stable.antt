@@ -1,23 +1,15 @@
 -- That a canonical file is its own conversion: converted to its own format, with nothing asked for, it is given again (our profile).
 use Rattle.std.specs.Prelude.{◌≡◌, ℕ, true, List, slice_get, Some, None, Ok}
-use Rattle.oc_base.specs.declared.format.Format.{Format}
-use Rattle.oc_base.specs.declared.format.Word.{Word}
+use Rattle.oc_base.specs.{declared.format.Format.{Format}, declared.format.Word.{Word}}
 use Rattle.oc_linking.specs.Keeping.{keeps}
-use Rattle.oc_neutral.specs.declared.section.Section.{Section}
-use Rattle.oc_neutral.specs.Objects.{Object}
-use Rattle.oc_shows.specs.Computed.{object_in}
-use Rattle.oc_neutral.specs.Dialects.{Dialect}
-use Rattle.oc_target.specs.Fitted.{IsFitted}
-use Rattle.oc_target.specs.Fitting.{fit_of}
-use Rattle.oc_shows.specs.Seen.{seen}
+use Rattle.oc_neutral.specs.{declared.section.Section.{Section}, Objects.{Object}, Dialects.{Dialect}}
+use Rattle.oc_shows.specs.{Computed.{object_in}, Seen.{seen}}
+use Rattle.oc_target.specs.{Fitted.{IsFitted}, Fitting.{fit_of}}
 use Rattle.oc_names.specs.Wishes.{no_wishes}
-use Rattle.oc_convert.specs.Refusals.{first_refusal, kept_of_file}
-use Rattle.oc_convert.specs.Converted.{planned_file}
-use Rattle.oc_elf.specs.declared.class.ElfClass.{ElfClass}
-use Rattle.oc_elf.specs.Elf.{elf_dialect}
+use Rattle.oc_convert.specs.{Refusals.{first_refusal, kept_of_file}, Converted.{planned_file}}
+use Rattle.oc_elf.specs.{declared.class.ElfClass.{ElfClass}, Elf.{elf_dialect}}
 use Rattle.oc_elf_file.specs.Canonical.{elf_file}
-use Rattle.oc_coff.specs.declared.form.CoffForm.{CoffForm}
-use Rattle.oc_coff.specs.Rules.{coff_dialect}
+use Rattle.oc_coff.specs.{declared.form.CoffForm.{CoffForm}, Rules.{coff_dialect}}
 use Rattle.oc_coff_file.specs.Canonical.{coff_file}
 use Rattle.oc_macho.specs.Rules.{mach_dialect}
 use Rattle.oc_macho_file.specs.Canonical.{mach_file}

@@ -1,39 +1,20 @@
 -- What many-section objects are refused for, and that they show what the usual form of them does; computed, and compared with an independent program's answers.
 use Rattle.std.proofs.Common.{◌≡◌, ℕ, zero, suc, List, [], ◌∷◌, ◌++◌, length, map, Some, None, Option, refl}
-use Rattle.std.specs.Prelude.{drop, replicate, take}
-use Rattle.std.specs.List.{range_with_len}
-use Rattle.std.specs.Option.{option_map}
-use Rattle.oc_coff.specs.declared.form.CoffForm.{CoffForm}
-use Rattle.oc_base.specs.declared.code.Code.{Code}
+use Rattle.std.specs.{Prelude.{drop, replicate, take}, List.{range_with_len}, Option.{option_map}}
+use Rattle.oc_coff.specs.{declared.form.CoffForm.{CoffForm}, FileHeader.{file_header_of}, SectionHeader.{section_header_at}, SymbolEntry.{symbol_at}}
+use Rattle.oc_coff.specs.{SectionAux.{section_aux_at}, WeakAux.{weak_aux_at}, Relocation.{relocation_at}}
+use Rattle.oc_coff.specs.{Tables.{section_table, slot_at, strings_of, entries_of, section_tables, tables_of}, Names.{string_at, section_name, symbol_name}}
+use Rattle.oc_coff.specs.{Entries.{entries_in}, Comdat.{definition_in, led_key, key_in}, Sections.{kind_in, carried_of, carried_in, position_of}}
+use Rattle.oc_coff.specs.{Symbols.{value_of, binding_of, symbol_of, symbols_in}, Targets.{aim_in}, Fields.{field_by, fields_in}}
+use Rattle.oc_coff.specs.{HeaderFaults.{header_conditions}, SectionFaults.{section_conditions}, SymbolFaults.{symbol_conditions}}
+use Rattle.oc_coff.specs.{RelocationFaults.{relocation_conditions, judged_in}, Rules.{coff_rules, fault_by, stages_of}}
+use Rattle.oc_coff.specs.declared.form.CoffForm.TheVariants.{Usual32, Usual64, Big32, Big64}
+use Rattle.oc_base.specs.{declared.code.Code.{Code}, declared.fault.Fault.{Fault}, declared.fault.Phase.{Phase}, Numbers.{number_at}}
 use Rattle.oc_base.specs.declared.code.Code.TheVariants as code
-use Rattle.oc_base.specs.declared.fault.Fault.{Fault}
-use Rattle.oc_base.specs.declared.fault.Phase.{Phase}
 use Rattle.oc_base.specs.declared.fault.Phase.TheVariants as phase
-use Rattle.oc_base.specs.Numbers.{number_at}
 use Rattle.oc_linking.specs.Keeping.{all}
 use Rattle.oc_neutral.specs.Coff.Kinds.{coff_kind, coff_tag}
-use Rattle.oc_coff.specs.FileHeader.{file_header_of}
-use Rattle.oc_coff.specs.SectionHeader.{section_header_at}
-use Rattle.oc_coff.specs.SymbolEntry.{symbol_at}
-use Rattle.oc_coff.specs.SectionAux.{section_aux_at}
-use Rattle.oc_coff.specs.WeakAux.{weak_aux_at}
-use Rattle.oc_coff.specs.Relocation.{relocation_at}
-use Rattle.oc_coff.specs.Tables.{section_table, slot_at, strings_of, entries_of, section_tables, tables_of}
-use Rattle.oc_coff.specs.Names.{string_at, section_name, symbol_name}
-use Rattle.oc_coff.specs.Entries.{entries_in}
-use Rattle.oc_coff.specs.Comdat.{definition_in, led_key, key_in}
-use Rattle.oc_coff.specs.Sections.{kind_in, carried_of, carried_in, position_of}
-use Rattle.oc_coff.specs.Symbols.{value_of, binding_of, symbol_of, symbols_in}
-use Rattle.oc_coff.specs.Targets.{aim_in}
-use Rattle.oc_coff.specs.Fields.{field_by, fields_in}
-use Rattle.oc_coff.specs.HeaderFaults.{header_conditions}
-use Rattle.oc_coff.specs.SectionFaults.{section_conditions}
-use Rattle.oc_coff.specs.SymbolFaults.{symbol_conditions}
-use Rattle.oc_coff.specs.RelocationFaults.{relocation_conditions, judged_in}
-use Rattle.oc_coff.specs.Rules.{coff_rules, fault_by, stages_of}
-use Rattle.oc_coff.specs.declared.form.CoffForm.TheVariants.{Usual32, Usual64, Big32, Big64}
-use Rattle.oc_coff.proofs.WorkedFiles.{grouped, manifold, weakened}
-use Rattle.oc_coff.proofs.BigFiles.{big_call, big_call_64, big_grouped, big_weakened, big_manifold}
+use Rattle.oc_coff.proofs.{WorkedFiles.{grouped, manifold, weakened}, BigFiles.{big_call, big_call_64, big_grouped, big_weakened, big_manifold}}
 
 -- a fault: its phase, index, code and place
 abbrev Told : Type 0

@@ -1,26 +1,14 @@
 -- What a file has whose header has no fault.
-use Rattle.oc_coff.specs.declared.form.Shape.{Shape}
-use Rattle.oc_coff.specs.declared.form.Shape.TheVariants.{Usual, Big}
-use Rattle.oc_coff.specs.SymbolEntry.{symbol_at}
+use Rattle.oc_coff.specs.{declared.form.Shape.{Shape}, declared.form.Shape.TheVariants.{Usual, Big}, SymbolEntry.{symbol_at}}
 use Rattle.oc_coff.specs.Tables.{slot_at, section_table, section_tables, entries_of, strings_place, strings_size, has_strings, tables_of}
-use Rattle.oc_coff.specs.Files.{CoffFile, slot_in, tables_in}
-use Rattle.oc_coff.specs.Forms.{symbol_size, header_size}
+use Rattle.oc_coff.specs.{Files.{CoffFile, slot_in, tables_in}, Forms.{symbol_size, header_size}, declared.file_header.FileHeader.{FileHeader}}
+use Rattle.oc_coff.specs.{FileHeader.{file_header_of}, SectionHeader.{section_header_at}, HeaderFaults.{header_conditions}, Head.{IsHeaded}}
 use Rattle.std.proofs.Common.{◌≡◌, ℕ, ◌+◌, ◌*◌, ◌<◌, ◌≤◌, ◌^◌, Bool, true, false, cond, eqb, List, [], length, take, drop, None, Some, refl, sym, ◌∙◌, ap, subst, arith}
-use Rattle.std.specs.Prelude.{not, ◌&&◌, nat_lt, slice_get}
-use Rattle.std.specs.Option.{option_map}
-use Rattle.std.proofs.lemmas.Bool.{eqb-true, true≢false}
-use Rattle.std.proofs.lemmas.Bool.Decides.{nat_tests}
-use Rattle.std.proofs.lemmas.List.{length-map}
-use Rattle.std.proofs.lemmas.Option.{slice_get-map}
+use Rattle.std.specs.{Prelude.{not, ◌&&◌, nat_lt, slice_get}, Option.{option_map}}
+use Rattle.std.proofs.lemmas.{Bool.{eqb-true, true≢false}, Bool.Decides.{nat_tests}, List.{length-map}, Option.{slice_get-map}}
 use Rattle.oc_linking.specs.FirstFault.{first_broken}
 use Rattle.oc_shelf.specs.Reading.Rows.{rows}
-use Rattle.oc_shelf.proofs.ReadingLaws.StageLemmas.{all_hold}
-use Rattle.oc_shelf.proofs.ReadingLaws.RowLemmas.{length-rows, row_at}
-use Rattle.oc_coff.specs.declared.file_header.FileHeader.{FileHeader}
-use Rattle.oc_coff.specs.FileHeader.{file_header_of}
-use Rattle.oc_coff.specs.SectionHeader.{section_header_at}
-use Rattle.oc_coff.specs.HeaderFaults.{header_conditions}
-use Rattle.oc_coff.specs.Head.{IsHeaded}
+use Rattle.oc_shelf.proofs.{ReadingLaws.StageLemmas.{all_hold}, ReadingLaws.RowLemmas.{length-rows, row_at}}
 
 -- the header is there, and what it places lies in the file
 pub record HasTables (file : CoffFile) (h : FileHeader) : Type 0 where

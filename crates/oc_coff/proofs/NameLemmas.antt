@@ -1,13 +1,8 @@
 -- Names in string tables and in headers.
 use Rattle.std.proofs.Common.{◌≡◌, ℕ, zero, suc, ◌+◌, ◌-◌, ◌*◌, ◌<◌, ◌≤◌, ◌^◌, Bool, true, false, cond, List, [], ◌∷◌, length, take, get_or, None, Some, refl, sym, ◌∙◌, ap, arith}
-use Rattle.std.specs.Prelude.{nat_eq, nat_lt}
-use Rattle.std.specs.List.{list_all, position, position_or_len, before_first}
+use Rattle.std.specs.{Prelude.{nat_eq, nat_lt}, List.{list_all, position, position_or_len, before_first}}
 use Rattle.std.proofs.Math.Nat.{pow-le-pow_right, pow-suc}
-use Rattle.std.proofs.lemmas.Bool.Decides.{nat_tests}
-use Rattle.std.proofs.lemmas.List.{take_more, take_all}
-use Rattle.std.proofs.lemmas.List.Sums.{fold-append}
-use Rattle.std.proofs.lemmas.Option.{none-some, same_Some}
-use Rattle.std.proofs.lemmas.Bool.{and_parts}
+use Rattle.std.proofs.lemmas.{Bool.Decides.{nat_tests}, List.{take_more, take_all}, List.Sums.{fold-append}, Option.{none-some, same_Some}, Bool.{and_parts}}
 use Rattle.oc_coff.specs.Names.{is_digit, decimal_of}
 
 -- ... before the first NUL

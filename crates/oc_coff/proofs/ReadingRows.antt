@@ -1,48 +1,25 @@
 -- What files show, computed on worked files: sections, symbols, and fields with their residues where everything is at 0.
 use Rattle.std.proofs.Common.{◌≡◌, ℕ, ◌-◌, ◌^◌, List, [], ◌∷◌, map, codes, Some, None, Option, refl}
 use Rattle.std.specs.Option.{option_map}
-use Rattle.oc_coff.specs.declared.form.CoffForm.{CoffForm}
-use Rattle.oc_coff.specs.declared.form.CoffForm.TheVariants.{Usual32, Usual64}
-use Rattle.oc_linking.specs.declared.terms.Kind.{Kind}
-use Rattle.oc_linking.specs.declared.terms.Kind.TheVariants.{Code, ReadOnly, Data, Zero, Debug, Exception, Note}
-use Rattle.oc_linking.specs.declared.terms.Mark.{Mark}
-use Rattle.oc_linking.specs.declared.terms.Mark.TheVariants.{NoType, Function}
-use Rattle.oc_linking.specs.declared.terms.Width.{Width}
-use Rattle.oc_linking.specs.declared.terms.Width.TheVariants.{Two, Four, Eight}
-use Rattle.oc_linking.specs.declared.terms.Check.{Check}
-use Rattle.oc_linking.specs.declared.terms.Check.TheVariants.{Wrap, Signed, Unsigned}
-use Rattle.oc_linking.specs.declared.terms.Base.{Base}
-use Rattle.oc_linking.specs.declared.terms.Base.TheVariants.{Address, HomeNumber}
-use Rattle.oc_linking.specs.declared.terms.Less.{Less}
+use Rattle.oc_coff.specs.{declared.form.CoffForm.{CoffForm}, declared.form.CoffForm.TheVariants.{Usual32, Usual64}, FileHeader.{file_header_of}}
+use Rattle.oc_coff.specs.{SectionHeader.{section_header_at}, SymbolEntry.{symbol_at}, SectionAux.{section_aux_at}, WeakAux.{weak_aux_at}}
+use Rattle.oc_coff.specs.{Relocation.{relocation_at}, Tables.{section_table, slot_at, strings_of, entries_of, section_tables, tables_of}}
+use Rattle.oc_coff.specs.{Names.{string_at, section_name, symbol_name}, Entries.{entries_in}, Comdat.{definition_in, led_key, key_in}}
+use Rattle.oc_coff.specs.{Sections.{kind_in, carried_of, carried_in, position_of}, Symbols.{value_of, binding_of, symbol_of, symbols_in}, Targets.{aim_in}}
+use Rattle.oc_coff.specs.{Fields.{field_by, fields_in}, Rules.{coff_rules}}
+use Rattle.oc_linking.specs.{declared.terms.Kind.{Kind}, declared.terms.Kind.TheVariants.{Code, ReadOnly, Data, Zero, Debug, Exception, Note}}
+use Rattle.oc_linking.specs.{declared.terms.Mark.{Mark}, declared.terms.Mark.TheVariants.{NoType, Function}, declared.terms.Width.{Width}}
+use Rattle.oc_linking.specs.{declared.terms.Width.TheVariants.{Two, Four, Eight}, declared.terms.Check.{Check}}
+use Rattle.oc_linking.specs.{declared.terms.Check.TheVariants.{Wrap, Signed, Unsigned}, declared.terms.Base.{Base}}
+use Rattle.oc_linking.specs.{declared.terms.Base.TheVariants.{Address, HomeNumber}, declared.terms.Less.{Less}}
+use Rattle.oc_linking.specs.{declared.terms.Value.TheVariants.{Place, Absolute}, declared.terms.Binding.{Binding}}
+use Rattle.oc_linking.specs.{declared.terms.Binding.TheVariants.{Local, Global, Undefined, Common, Weak}, Keeping.{all}, Parts.{Section, Symbol}}
+use Rattle.oc_linking.specs.{Placing.{zeros}, Rules.{Field, Named, Symbolic, Sectional}, Values.{worthless}}
 use Rattle.oc_linking.specs.declared.terms.Less.TheVariants as less
-use Rattle.oc_linking.specs.declared.terms.Value.TheVariants.{Place, Absolute}
 use Rattle.oc_linking.specs.declared.terms.Fallback.TheVariants as fallback
-use Rattle.oc_linking.specs.declared.terms.Binding.{Binding}
-use Rattle.oc_linking.specs.declared.terms.Binding.TheVariants.{Local, Global, Undefined, Common, Weak}
-use Rattle.oc_linking.specs.Keeping.{all}
-use Rattle.oc_linking.specs.Parts.{Section, Symbol}
-use Rattle.oc_linking.specs.Placing.{zeros}
-use Rattle.oc_linking.specs.Rules.{Field, Named, Symbolic, Sectional}
-use Rattle.oc_linking.specs.Values.{worthless}
-use Rattle.oc_algebra.specs.Residues.{residue_of}
-use Rattle.oc_algebra.specs.Fields.{extended}
+use Rattle.oc_algebra.specs.{Residues.{residue_of}, Fields.{extended}}
 use Rattle.oc_base.specs.Numbers.{number_at}
 use Rattle.oc_neutral.specs.Coff.Kinds.{coff_kind, coff_tag}
-use Rattle.oc_coff.specs.FileHeader.{file_header_of}
-use Rattle.oc_coff.specs.SectionHeader.{section_header_at}
-use Rattle.oc_coff.specs.SymbolEntry.{symbol_at}
-use Rattle.oc_coff.specs.SectionAux.{section_aux_at}
-use Rattle.oc_coff.specs.WeakAux.{weak_aux_at}
-use Rattle.oc_coff.specs.Relocation.{relocation_at}
-use Rattle.oc_coff.specs.Tables.{section_table, slot_at, strings_of, entries_of, section_tables, tables_of}
-use Rattle.oc_coff.specs.Names.{string_at, section_name, symbol_name}
-use Rattle.oc_coff.specs.Entries.{entries_in}
-use Rattle.oc_coff.specs.Comdat.{definition_in, led_key, key_in}
-use Rattle.oc_coff.specs.Sections.{kind_in, carried_of, carried_in, position_of}
-use Rattle.oc_coff.specs.Symbols.{value_of, binding_of, symbol_of, symbols_in}
-use Rattle.oc_coff.specs.Targets.{aim_in}
-use Rattle.oc_coff.specs.Fields.{field_by, fields_in}
-use Rattle.oc_coff.specs.Rules.{coff_rules}
 use Rattle.oc_coff.proofs.WorkedFiles.{call, grouped, msvc, weakened, tails, nearer, overflowed, copied, manifold, assorted}
 
 -- a section: its name, kind, alignment, size, tag and group

@@ -1,13 +1,10 @@
 -- Sections of which a linker keeps one copy, and their groups (PE/COFF, "COMDAT Sections" and "Auxiliary Format 5: Section Definitions"; our profile).
 use Rattle.std.specs.Prelude.{ℕ, ◌-◌, Bool, false, ◌&&◌, nat_eq, if◌then◌else◌, List, filter, slice_get, Option, Some, None}
 use Rattle.std.specs.Option.{option_map, option_map_or, option_and_then}
-use Rattle.oc_neutral.specs.KindRules.{has}
-use Rattle.oc_neutral.specs.declared.coff.TheConstants.{IMAGE_SCN_LNK_COMDAT}
-use Rattle.oc_coff.specs.declared.section_header.SectionHeader.{SectionHeader}
-use Rattle.oc_coff.specs.declared.section_aux.SectionAux.{SectionAux}
+use Rattle.oc_neutral.specs.{KindRules.{has}, declared.coff.TheConstants.{IMAGE_SCN_LNK_COMDAT}}
+use Rattle.oc_coff.specs.{declared.section_header.SectionHeader.{SectionHeader}, declared.section_aux.SectionAux.{SectionAux}}
 use Rattle.oc_coff.specs.declared.constants.TheConstants.{IMAGE_COMDAT_SELECT_ANY, IMAGE_COMDAT_SELECT_ASSOCIATIVE, IMAGE_SYM_CLASS_EXTERNAL, IMAGE_SYM_CLASS_STATIC}
-use Rattle.oc_coff.specs.Tables.{SectionTable, Slot, Tables}
-use Rattle.oc_coff.specs.Entries.{Entry, entries_in, name_of, is_class, is_in}
+use Rattle.oc_coff.specs.{Tables.{SectionTable, Slot, Tables}, Entries.{Entry, entries_in, name_of, is_class, is_in}}
 
 -- the section of a number
 abbrev pub section_numbered : Tables → ℕ → Option SectionTable

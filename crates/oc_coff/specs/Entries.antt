@@ -1,9 +1,6 @@
 -- The symbols among the entries of a symbol table (PE/COFF, "COFF Symbol Table", "Storage Class" and "Section Number Values").
-use Rattle.std.specs.Prelude.{ℕ, zero, suc, ◌+◌, Bool, ◌&&◌, nat_eq, nat_le, if◌then◌else◌, List, [], ◌∷◌, find, Option, Some, None}
-use Rattle.std.specs.Option.{unwrap_or}
-use Rattle.oc_coff.specs.declared.symbol.SymbolEntry.{SymbolEntry}
-use Rattle.oc_coff.specs.declared.constants.TheConstants.{IMAGE_SYM_SECTION_MAX_EX}
-use Rattle.oc_coff.specs.Tables.{Slot, Tables}
+use Rattle.std.specs.{Prelude.{ℕ, zero, suc, ◌+◌, Bool, ◌&&◌, nat_eq, nat_le, if◌then◌else◌, List, [], ◌∷◌, find, Option, Some, None}, Option.{unwrap_or}}
+use Rattle.oc_coff.specs.{declared.symbol.SymbolEntry.{SymbolEntry}, declared.constants.TheConstants.{IMAGE_SYM_SECTION_MAX_EX}, Tables.{Slot, Tables}}
 use Rattle.oc_coff.specs.Names.{symbol_name}
 
 -- a symbol with its number, and its first auxiliary entry, where it has one in the table

@@ -1,18 +1,11 @@
 -- Relocated fields (PE/COFF, "COFF Relocations" and "Type Indicators"; our profile). The number that is added is in the field.
-use Rattle.std.specs.Prelude.{ℕ, Bool, not, ◌&&◌, nat_eq, List, find, slice_get, Option}
-use Rattle.std.specs.Option.{option_map, option_and_then}
-use Rattle.oc_linking.specs.Rules.{Field}
-use Rattle.oc_linking.specs.Targets.{Target}
-use Rattle.oc_neutral.specs.Rows.{Row}
-use Rattle.oc_neutral.specs.RelocTables.{row_of}
+use Rattle.std.specs.{Prelude.{ℕ, Bool, not, ◌&&◌, nat_eq, List, find, slice_get, Option}, Option.{option_map, option_and_then}}
+use Rattle.oc_linking.specs.{Rules.{Field}, Targets.{Target}}
+use Rattle.oc_neutral.specs.{Rows.{Row}, RelocTables.{row_of}}
 use Rattle.oc_shows.specs.RowFields.{field_in_place}
 use Rattle.oc_base.specs.declared.format.Word.{Word}
-use Rattle.oc_coff.specs.declared.relocation.Relocation.{Relocation}
-use Rattle.oc_coff.specs.declared.constants.TheConstants.{IMAGE_REL_I386_ABSOLUTE}
-use Rattle.oc_coff.specs.Forms.{coff_format}
-use Rattle.oc_coff.specs.Tables.{Tables}
-use Rattle.oc_coff.specs.Sections.{Carried, carried_in}
-use Rattle.oc_coff.specs.Targets.{target_in}
+use Rattle.oc_coff.specs.{declared.relocation.Relocation.{Relocation}, declared.constants.TheConstants.{IMAGE_REL_I386_ABSOLUTE}, Forms.{coff_format}}
+use Rattle.oc_coff.specs.{Tables.{Tables}, Sections.{Carried, carried_in}, Targets.{target_in}}
 
 -- an entry has no effect
 abbrev pub says_nothing : Relocation → Bool

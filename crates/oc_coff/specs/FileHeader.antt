@@ -2,10 +2,8 @@
 use Rattle.std.specs.Prelude.{ℕ, List, [], ◌∷◌, ◌++◌}
 use Rattle.oc_base.specs.Numbers.{number_at}
 use Rattle.oc_shelf.specs.Writing.Packed.{packed}
-use Rattle.oc_coff.specs.declared.file_header.FileHeader.{FileHeader}
-use Rattle.oc_coff.specs.declared.constants.TheConstants.{BIG_SIGNATURE, IMAGE_FILE_MACHINE_UNKNOWN}
-use Rattle.oc_coff.specs.declared.form.Shape.{Shape}
-use Rattle.oc_coff.specs.declared.form.Shape.TheVariants.{Usual, Big}
+use Rattle.oc_coff.specs.{declared.file_header.FileHeader.{FileHeader}, declared.constants.TheConstants.{BIG_SIGNATURE, IMAGE_FILE_MACHINE_UNKNOWN}}
+use Rattle.oc_coff.specs.{declared.form.Shape.{Shape}, declared.form.Shape.TheVariants.{Usual, Big}}
 
 -- the file header; what a shape has no room for is 0
 unfoldable pub file_header_of : Shape → List ℕ → FileHeader

@@ -1,7 +1,6 @@
 -- Files with the shape in which they are read (PE/COFF; winnt.h, "ANON_OBJECT_HEADER_BIGOBJ").
 use Rattle.std.specs.Prelude.{ℕ, List}
-use Rattle.oc_coff.specs.declared.form.Shape.{Shape}
-use Rattle.oc_coff.specs.Tables.{Slot, Tables, slot_at, tables_of}
+use Rattle.oc_coff.specs.{declared.form.Shape.{Shape}, Tables.{Slot, Tables, slot_at, tables_of}}
 
 -- a file, and its shape
 pub record CoffFile : Type 0 where

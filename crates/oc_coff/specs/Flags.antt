@@ -1,15 +1,11 @@
 -- What headers say of a section and of the file besides names and places (PE/COFF, "Section Flags", "COFF Relocations" and "Machine Types").
-use Rattle.std.specs.Prelude.{ℕ, ◌+◌, ◌*◌, ◌^◌, Bool, nat_eq, nat_lt, if◌then◌else◌, List, ◌∷◌, length}
-use Rattle.std.specs.Option.{option_map_or, unwrap_or}
-use Rattle.oc_base.specs.declared.format.Word.{Word}
-use Rattle.oc_base.specs.declared.format.Word.TheVariants.{W32, W64}
+use Rattle.std.specs.{Prelude.{ℕ, ◌+◌, ◌*◌, ◌^◌, Bool, nat_eq, nat_lt, if◌then◌else◌, List, ◌∷◌, length}, Option.{option_map_or, unwrap_or}}
+use Rattle.oc_base.specs.{declared.format.Word.{Word}, declared.format.Word.TheVariants.{W32, W64}}
 use Rattle.oc_linking.specs.Numbers.{first_from}
 use Rattle.oc_neutral.specs.declared.section.Section.{Section}
 use Rattle.oc_neutral.specs.declared.coff.TheConstants.{IMAGE_SCN_ALIGN_1BYTES, IMAGE_SCN_LNK_COMDAT, IMAGE_SCN_LNK_NRELOC_OVFL, ALIGN_BITS}
 use Rattle.oc_coff.specs.declared.constants.TheConstants.{BIG_VERSION, IMAGE_FILE_MACHINE_I386, IMAGE_FILE_MACHINE_AMD64, IMAGE_REL_I386_ABSOLUTE, OVERFLOWED_COUNT}
-use Rattle.oc_coff.specs.declared.form.Shape.{Shape}
-use Rattle.oc_coff.specs.declared.form.Shape.TheVariants.{Usual, Big}
-use Rattle.oc_coff.specs.declared.relocation.Relocation.{Relocation}
+use Rattle.oc_coff.specs.{declared.form.Shape.{Shape}, declared.form.Shape.TheVariants.{Usual, Big}, declared.relocation.Relocation.{Relocation}}
 
 -- the machine of a word
 abbrev pub machine_of : Word → ℕ

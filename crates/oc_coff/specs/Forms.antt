@@ -1,15 +1,10 @@
 -- The forms of COFF: two words, and objects of few and of many sections (PE/COFF; winnt.h, "ANON_OBJECT_HEADER_BIGOBJ").
 use Rattle.std.specs.Prelude.{ℕ}
-use Rattle.oc_base.specs.declared.format.Format.{Format}
-use Rattle.oc_base.specs.declared.format.Format.TheVariants.{Coff32, Coff64, BigCoff32, BigCoff64}
-use Rattle.oc_base.specs.declared.format.Word.{Word}
-use Rattle.oc_base.specs.declared.format.Word.TheVariants.{W32, W64}
-use Rattle.oc_coff.specs.declared.file_header.TheConstants.{FILE_HEADER_SIZE, BIG_HEADER_SIZE}
-use Rattle.oc_coff.specs.declared.form.CoffForm.{CoffForm}
-use Rattle.oc_coff.specs.declared.form.CoffForm.TheVariants.{Usual32, Usual64, Big32, Big64}
-use Rattle.oc_coff.specs.declared.form.Shape.{Shape}
-use Rattle.oc_coff.specs.declared.form.Shape.TheVariants.{Usual, Big}
-use Rattle.oc_coff.specs.declared.symbol.TheConstants.{SYMBOL_SIZE, BIG_SYMBOL_SIZE}
+use Rattle.oc_base.specs.{declared.format.Format.{Format}, declared.format.Format.TheVariants.{Coff32, Coff64, BigCoff32, BigCoff64}}
+use Rattle.oc_base.specs.{declared.format.Word.{Word}, declared.format.Word.TheVariants.{W32, W64}}
+use Rattle.oc_coff.specs.{declared.file_header.TheConstants.{FILE_HEADER_SIZE, BIG_HEADER_SIZE}, declared.form.CoffForm.{CoffForm}}
+use Rattle.oc_coff.specs.{declared.form.CoffForm.TheVariants.{Usual32, Usual64, Big32, Big64}, declared.form.Shape.{Shape}}
+use Rattle.oc_coff.specs.{declared.form.Shape.TheVariants.{Usual, Big}, declared.symbol.TheConstants.{SYMBOL_SIZE, BIG_SYMBOL_SIZE}}
 
 -- the word of a form
 abbrev pub word_of : CoffForm → Word

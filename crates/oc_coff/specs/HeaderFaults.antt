@@ -1,19 +1,12 @@
 -- What a file header must meet (PE/COFF, "COFF File Header" and "COFF String Table"; our profile).
 use Rattle.std.specs.Prelude.{ℕ, ◌+◌, ◌*◌, Bool, not, ◌&&◌, nat_eq, nat_lt, List, [], ◌∷◌, length}
-use Rattle.oc_base.specs.declared.code.Code.{Code}
-use Rattle.oc_base.specs.declared.code.Code.TheVariants.{Short, NotRelocatable, BadHeader}
-use Rattle.oc_base.specs.declared.fault.Phase.TheVariants.{Header}
-use Rattle.oc_base.specs.declared.fault.Fault.{Fault}
+use Rattle.oc_base.specs.{declared.code.Code.{Code}, declared.code.Code.TheVariants.{Short, NotRelocatable, BadHeader}}
+use Rattle.oc_base.specs.{declared.fault.Phase.TheVariants.{Header}, declared.fault.Fault.{Fault}}
 use Rattle.oc_linking.specs.FirstFault.{Condition, Stage}
 use Rattle.oc_neutral.specs.declared.coff.TheConstants.{STRINGS_HEAD}
-use Rattle.oc_coff.specs.declared.constants.TheConstants.{BIG_VERSION}
-use Rattle.oc_coff.specs.declared.section_header.TheConstants.{SECTION_HEADER_SIZE}
-use Rattle.oc_coff.specs.declared.file_header.FileHeader.{FileHeader}
-use Rattle.oc_coff.specs.declared.form.Shape.{Shape}
-use Rattle.oc_coff.specs.declared.form.Shape.TheVariants.{Usual, Big}
-use Rattle.oc_coff.specs.Forms.{header_size, symbol_size}
-use Rattle.oc_coff.specs.FileHeader.{file_header_of}
-use Rattle.oc_coff.specs.Tables.{strings_place, strings_size, has_strings}
+use Rattle.oc_coff.specs.{declared.constants.TheConstants.{BIG_VERSION}, declared.section_header.TheConstants.{SECTION_HEADER_SIZE}}
+use Rattle.oc_coff.specs.{declared.file_header.FileHeader.{FileHeader}, declared.form.Shape.{Shape}, declared.form.Shape.TheVariants.{Usual, Big}}
+use Rattle.oc_coff.specs.{Forms.{header_size, symbol_size}, FileHeader.{file_header_of}, Tables.{strings_place, strings_size, has_strings}}
 
 -- a fault of the header, or of what it places
 abbrev pub header_fault : ℕ → Code → Fault

@@ -1,11 +1,8 @@
 -- What the types of relocations mean, by the tables of all formats (PE/COFF, "Type Indicators").
-use Rattle.std.specs.Prelude.{ℕ, Option}
-use Rattle.std.specs.Option.{option_map}
+use Rattle.std.specs.{Prelude.{ℕ, Option}, Option.{option_map}}
 use Rattle.oc_base.specs.declared.format.Word.{Word}
-use Rattle.oc_neutral.specs.Rows.{Row, less_of}
-use Rattle.oc_neutral.specs.RelocTables.{row_of}
-use Rattle.oc_coff.specs.Forms.{coff_format}
-use Rattle.oc_coff.specs.declared.meaning.Meaning.{Meaning}
+use Rattle.oc_neutral.specs.{Rows.{Row, less_of}, RelocTables.{row_of}}
+use Rattle.oc_coff.specs.{Forms.{coff_format}, declared.meaning.Meaning.{Meaning}}
 
 -- the meaning of a row; no row of COFF takes a section
 abbrev pub meant_by : Row → Meaning

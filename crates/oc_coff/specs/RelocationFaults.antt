@@ -1,27 +1,14 @@
 -- What the relocation entries of kept sections must meet (PE/COFF, "COFF Relocations"; our profile).
 use Rattle.std.specs.Prelude.{ℕ, ◌+◌, Bool, true, false, not, ◌&&◌, ◌||◌, nat_lt, if◌then◌else◌, List, [], ◌∷◌, ◌++◌, length, flat_map, filter, is_none, Option}
-use Rattle.std.specs.List.{list_any}
-use Rattle.std.specs.Option.{option_map_or}
-use Rattle.oc_base.specs.declared.format.Word.{Word}
-use Rattle.oc_base.specs.declared.code.Code.{Code}
-use Rattle.oc_base.specs.declared.code.Code.TheVariants.{RelocKind, BadOffset, BadTarget, TargetKind, Overlap}
+use Rattle.std.specs.{List.{list_any}, Option.{option_map_or}}
+use Rattle.oc_base.specs.{declared.format.Word.{Word}, declared.code.Code.{Code}}
+use Rattle.oc_base.specs.{declared.code.Code.TheVariants.{RelocKind, BadOffset, BadTarget, TargetKind, Overlap}, declared.fault.Fault.{Fault}}
 use Rattle.oc_base.specs.declared.fault.Phase.TheVariants as phase
-use Rattle.oc_base.specs.declared.fault.Fault.{Fault}
-use Rattle.oc_linking.specs.declared.terms.Keep.{Keep}
-use Rattle.oc_linking.specs.Keeping.{keeps}
-use Rattle.oc_linking.specs.Fits.{bytes_of}
-use Rattle.oc_linking.specs.FirstFault.{Condition, Stage}
+use Rattle.oc_linking.specs.{declared.terms.Keep.{Keep}, Keeping.{keeps}, Fits.{bytes_of}, FirstFault.{Condition, Stage}}
 use Rattle.oc_linking.specs.declared.terms.Base.TheVariants.{HomeNumber}
-use Rattle.oc_neutral.specs.Rows.{Row, TakesHome, same_base, same_taken}
-use Rattle.oc_neutral.specs.RelocTables.{row_of}
-use Rattle.oc_neutral.specs.TargetSections.{each_of}
-use Rattle.oc_coff.specs.declared.relocation.Relocation.{Relocation}
-use Rattle.oc_coff.specs.declared.relocation.TheConstants.{RELOCATION_SIZE}
-use Rattle.oc_coff.specs.Tables.{Tables}
-use Rattle.oc_coff.specs.Sections.{Carried, carried_in}
-use Rattle.oc_coff.specs.Targets.{Aim, aim_in}
-use Rattle.oc_coff.specs.Forms.{coff_format}
-use Rattle.oc_coff.specs.Fields.{says_nothing}
+use Rattle.oc_neutral.specs.{Rows.{Row, TakesHome, same_base, same_taken}, RelocTables.{row_of}, TargetSections.{each_of}}
+use Rattle.oc_coff.specs.{declared.relocation.Relocation.{Relocation}, declared.relocation.TheConstants.{RELOCATION_SIZE}, Tables.{Tables}}
+use Rattle.oc_coff.specs.{Sections.{Carried, carried_in}, Targets.{Aim, aim_in}, Forms.{coff_format}, Fields.{says_nothing}}
 
 -- a relocation entry of a section with its place, and those before it in the section's table
 pub record Judged : Type 0 where

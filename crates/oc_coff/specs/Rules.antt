@@ -1,23 +1,11 @@
 -- COFF, as one record of functions of a file's bytes (PE/COFF; our profile).
 use Rattle.std.specs.Prelude.{ℕ, List, [], ◌∷◌, Option}
-use Rattle.oc_base.specs.declared.format.Word.{Word}
-use Rattle.oc_coff.specs.declared.form.CoffForm.{CoffForm}
-use Rattle.oc_coff.specs.declared.form.Shape.{Shape}
-use Rattle.oc_base.specs.declared.fault.Fault.{Fault}
-use Rattle.oc_linking.specs.declared.terms.Keep.{Keep}
-use Rattle.oc_linking.specs.FirstFault.{Stage, first_fault}
-use Rattle.oc_linking.specs.Rules.{Rules}
-use Rattle.oc_neutral.specs.Alignments.{output_align, common_align}
-use Rattle.oc_neutral.specs.Dialects.{Dialect, IsDialect}
-use Rattle.oc_coff.specs.Tables.{Tables, tables_of}
-use Rattle.oc_coff.specs.Sections.{sections_in}
-use Rattle.oc_coff.specs.Symbols.{symbols_in}
-use Rattle.oc_coff.specs.Forms.{format_by, shape_of, word_of}
-use Rattle.oc_coff.specs.Fields.{fields_in}
-use Rattle.oc_coff.specs.HeaderFaults.{header_stage}
-use Rattle.oc_coff.specs.SectionFaults.{section_stage}
-use Rattle.oc_coff.specs.SymbolFaults.{symbol_stage}
-use Rattle.oc_coff.specs.RelocationFaults.{relocation_stage}
+use Rattle.oc_base.specs.{declared.format.Word.{Word}, declared.fault.Fault.{Fault}}
+use Rattle.oc_coff.specs.{declared.form.CoffForm.{CoffForm}, declared.form.Shape.{Shape}, Tables.{Tables, tables_of}, Sections.{sections_in}}
+use Rattle.oc_coff.specs.{Symbols.{symbols_in}, Forms.{format_by, shape_of, word_of}, Fields.{fields_in}, HeaderFaults.{header_stage}}
+use Rattle.oc_coff.specs.{SectionFaults.{section_stage}, SymbolFaults.{symbol_stage}, RelocationFaults.{relocation_stage}}
+use Rattle.oc_linking.specs.{declared.terms.Keep.{Keep}, FirstFault.{Stage, first_fault}, Rules.{Rules}}
+use Rattle.oc_neutral.specs.{Alignments.{output_align, common_align}, Dialects.{Dialect, IsDialect}}
 
 -- what is judged of a file of that shape, stage by stage
 unfoldable pub stages_of : Word → Shape → List ℕ → Tables → Keep → List Stage

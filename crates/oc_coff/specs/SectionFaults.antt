@@ -1,31 +1,17 @@
 -- What the sections of a file must meet (PE/COFF, "Section Table" and "COMDAT Sections"; our profile).
 use Rattle.std.specs.Prelude.{ℕ, ◌+◌, ◌-◌, ◌*◌, Bool, not, ◌&&◌, ◌||◌, nat_eq, nat_lt, nat_le, if◌then◌else◌, is_none, List, [], ◌∷◌, ◌++◌, length, slice_get, Option, false}
-use Rattle.std.specs.List.{enumerate_from}
-use Rattle.std.specs.Option.{option_map_or, is_some}
+use Rattle.std.specs.{List.{enumerate_from}, Option.{option_map_or, is_some}}
 use Rattle.oc_base.specs.declared.code.Code.{Code}
 use Rattle.oc_base.specs.declared.code.Code.TheVariants.{BadName, Group, SectionKind, BadAlign, BadTable, Short, LimitSection, LimitSum, LimitBytes}
-use Rattle.oc_base.specs.declared.fault.Phase.TheVariants.{Section}
-use Rattle.oc_base.specs.declared.fault.Fault.{Fault}
-use Rattle.oc_base.specs.Numbers.{number_at}
-use Rattle.oc_linking.specs.declared.terms.Kind.{Kind}
-use Rattle.oc_linking.specs.declared.terms.Kind.TheVariants.{Zero}
-use Rattle.oc_linking.specs.FirstFault.{Condition, Stage}
-use Rattle.oc_neutral.specs.KindRules.{has, same_kind}
-use Rattle.oc_neutral.specs.TargetSections.{each_of}
-use Rattle.oc_neutral.specs.declared.coff.TheConstants.{IMAGE_SCN_CNT_UNINITIALIZED_DATA}
+use Rattle.oc_base.specs.{declared.fault.Phase.TheVariants.{Section}, declared.fault.Fault.{Fault}, Numbers.{number_at}}
+use Rattle.oc_linking.specs.{declared.terms.Kind.{Kind}, declared.terms.Kind.TheVariants.{Zero}, FirstFault.{Condition, Stage}}
+use Rattle.oc_neutral.specs.{KindRules.{has, same_kind}, TargetSections.{each_of}, declared.coff.TheConstants.{IMAGE_SCN_CNT_UNINITIALIZED_DATA}}
 use Rattle.oc_shelf.specs.Reading.Sums.{sum_upto, passes}
 use Rattle.oc_coff.specs.declared.constants.TheConstants.{IMAGE_COMDAT_SELECT_NODUPLICATES, IMAGE_COMDAT_SELECT_ANY, IMAGE_COMDAT_SELECT_ASSOCIATIVE}
-use Rattle.oc_coff.specs.declared.section_header.TheConstants.{SECTION_HEADER_SIZE}
-use Rattle.oc_coff.specs.declared.relocation.TheConstants.{RELOCATION_SIZE}
-use Rattle.oc_coff.specs.declared.section_header.SectionHeader.{SectionHeader}
-use Rattle.oc_coff.specs.declared.section_aux.SectionAux.{SectionAux}
-use Rattle.oc_coff.specs.Forms.{header_size}
-use Rattle.oc_coff.specs.Tables.{SectionTable, Tables, is_overflowed}
-use Rattle.oc_coff.specs.Names.{section_name}
-use Rattle.oc_coff.specs.Entries.{entries_in}
-use Rattle.oc_coff.specs.Comdat.{is_comdat, definition_in, selects, key_symbol}
-use Rattle.oc_coff.specs.Sections.{align_bits, kind_in, is_stored}
-use Rattle.oc_coff.specs.HeaderFaults.{passes_end}
+use Rattle.oc_coff.specs.{declared.section_header.TheConstants.{SECTION_HEADER_SIZE}, declared.relocation.TheConstants.{RELOCATION_SIZE}}
+use Rattle.oc_coff.specs.{declared.section_header.SectionHeader.{SectionHeader}, declared.section_aux.SectionAux.{SectionAux}, Forms.{header_size}}
+use Rattle.oc_coff.specs.{Tables.{SectionTable, Tables, is_overflowed}, Names.{section_name}, Entries.{entries_in}}
+use Rattle.oc_coff.specs.{Comdat.{is_comdat, definition_in, selects, key_symbol}, Sections.{align_bits, kind_in, is_stored}, HeaderFaults.{passes_end}}
 
 -- a section with its number
 abbrev pub Numbered : Type 0

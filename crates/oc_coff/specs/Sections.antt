@@ -1,19 +1,10 @@
 -- Sections (PE/COFF, "Section Table" and "Section Flags"; our profile).
 use Rattle.std.specs.Prelude.{ℕ, ◌+◌, ◌-◌, ◌/◌, ◌%◌, ◌^◌, Bool, false, not, ◌&&◌, nat_eq, nat_le, if◌then◌else◌, List, [], ◌∷◌, map, replicate, Option, Some, None, filter_map}
-use Rattle.std.specs.Option.{option_map, option_map_or, option_and_then, unwrap_or}
-use Rattle.std.specs.List.{enumerate_from}
-use Rattle.oc_linking.specs.declared.terms.Kind.{Kind}
-use Rattle.oc_linking.specs.declared.terms.Kind.TheVariants.{Zero}
-use Rattle.oc_linking.specs.Parts.{Section}
-use Rattle.oc_neutral.specs.KindRules.{same_kind}
-use Rattle.oc_neutral.specs.Coff.Kinds.{coff_kind, coff_tag}
-use Rattle.oc_neutral.specs.declared.coff.TheConstants.{IMAGE_SCN_ALIGN_1BYTES}
-use Rattle.oc_coff.specs.declared.constants.TheConstants.{IMAGE_SYM_SECTION_MAX_EX}
-use Rattle.oc_coff.specs.declared.section_header.SectionHeader.{SectionHeader}
-use Rattle.oc_coff.specs.declared.relocation.Relocation.{Relocation}
-use Rattle.oc_coff.specs.Tables.{SectionTable, Tables}
-use Rattle.oc_coff.specs.Names.{section_name}
-use Rattle.oc_coff.specs.Comdat.{key_in}
+use Rattle.std.specs.{Option.{option_map, option_map_or, option_and_then, unwrap_or}, List.{enumerate_from}}
+use Rattle.oc_linking.specs.{declared.terms.Kind.{Kind}, declared.terms.Kind.TheVariants.{Zero}, Parts.{Section}}
+use Rattle.oc_neutral.specs.{KindRules.{same_kind}, Coff.Kinds.{coff_kind, coff_tag}, declared.coff.TheConstants.{IMAGE_SCN_ALIGN_1BYTES}}
+use Rattle.oc_coff.specs.{declared.constants.TheConstants.{IMAGE_SYM_SECTION_MAX_EX}, declared.section_header.SectionHeader.{SectionHeader}}
+use Rattle.oc_coff.specs.{declared.relocation.Relocation.{Relocation}, Tables.{SectionTable, Tables}, Names.{section_name}, Comdat.{key_in}}
 
 -- the alignment in a section's flags, four bits
 abbrev pub align_bits : ℕ → ℕ

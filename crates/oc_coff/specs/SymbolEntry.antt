@@ -2,9 +2,7 @@
 use Rattle.std.specs.Prelude.{ℕ, ◌+◌, ◌%◌, ◌^◌, nat_lt, if◌then◌else◌, List, [], ◌∷◌, ◌++◌, take, drop}
 use Rattle.oc_base.specs.Numbers.{number_at}
 use Rattle.oc_shelf.specs.Writing.Packed.{packed}
-use Rattle.oc_coff.specs.declared.form.Shape.{Shape}
-use Rattle.oc_coff.specs.declared.form.Shape.TheVariants.{Usual, Big}
-use Rattle.oc_coff.specs.declared.symbol.SymbolEntry.{SymbolEntry}
+use Rattle.oc_coff.specs.{declared.form.Shape.{Shape}, declared.form.Shape.TheVariants.{Usual, Big}, declared.symbol.SymbolEntry.{SymbolEntry}}
 use Rattle.oc_coff.specs.declared.symbol.TheConstants.{NEGATIVE_SECTION, SIGN_BITS}
 
 -- a section number of 16 bits with its sign in 32 bits: those from 0xFF00 up are below 0

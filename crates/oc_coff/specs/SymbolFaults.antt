@@ -1,24 +1,16 @@
 -- What the symbols of a file must meet (PE/COFF, "COFF Symbol Table", "Storage Class", "Section Number Values" and "Auxiliary Format 3: Weak Externals";
 -- our profile).
 use Rattle.std.specs.Prelude.{ℕ, ◌+◌, ◌*◌, Bool, false, not, ◌&&◌, ◌||◌, nat_eq, nat_lt, nat_le, if◌then◌else◌, List, [], ◌∷◌, ◌++◌, length, take, bytes_eq, is_none, Option}
-use Rattle.std.specs.List.{list_any}
-use Rattle.std.specs.Option.{option_map_or, is_some}
-use Rattle.oc_base.specs.declared.code.Code.{Code}
-use Rattle.oc_base.specs.declared.code.Code.TheVariants.{BadSymbol, BadName, SymbolKind, SymbolPastEnd, DuplicateName}
-use Rattle.oc_base.specs.declared.fault.Phase.TheVariants.{Symbol}
-use Rattle.oc_base.specs.declared.fault.Fault.{Fault}
+use Rattle.std.specs.{List.{list_any}, Option.{option_map_or, is_some}}
+use Rattle.oc_base.specs.{declared.code.Code.{Code}, declared.code.Code.TheVariants.{BadSymbol, BadName, SymbolKind, SymbolPastEnd, DuplicateName}}
+use Rattle.oc_base.specs.{declared.fault.Phase.TheVariants.{Symbol}, declared.fault.Fault.{Fault}}
 use Rattle.oc_linking.specs.Parts as parts
 use Rattle.oc_linking.specs.FirstFault.{Condition, Stage}
 use Rattle.oc_neutral.specs.TargetSections.{each_of}
 use Rattle.oc_coff.specs.declared.symbol.SymbolEntry.{SymbolEntry}
 use Rattle.oc_coff.specs.declared.constants.TheConstants.{IMAGE_SYM_SECTION_MAX_EX, IMAGE_SYM_UNDEFINED, IMAGE_SYM_ABSOLUTE, IMAGE_SYM_DEBUG, IMAGE_SYM_CLASS_EXTERNAL, IMAGE_SYM_CLASS_STATIC, IMAGE_SYM_CLASS_LABEL, IMAGE_SYM_CLASS_FUNCTION, IMAGE_SYM_CLASS_FILE, IMAGE_SYM_CLASS_WEAK_EXTERNAL}
-use Rattle.oc_coff.specs.Forms.{symbol_size}
-use Rattle.oc_coff.specs.Tables.{SectionTable, Tables}
-use Rattle.oc_coff.specs.Names.{is_nothing, symbol_name}
-use Rattle.oc_coff.specs.Comdat.{section_numbered}
-use Rattle.oc_coff.specs.Sections.{sections_in, position_of}
-use Rattle.oc_coff.specs.Entries.{Entry, entries_in, name_of, is_class, has_section}
-use Rattle.oc_coff.specs.Symbols.{tagged_by}
+use Rattle.oc_coff.specs.{Forms.{symbol_size}, Tables.{SectionTable, Tables}, Names.{is_nothing, symbol_name}, Comdat.{section_numbered}}
+use Rattle.oc_coff.specs.{Sections.{sections_in, position_of}, Entries.{Entry, entries_in, name_of, is_class, has_section}, Symbols.{tagged_by}}
 
 -- a fault of a symbol
 abbrev pub symbol_fault : Tables → Entry → Code → Fault

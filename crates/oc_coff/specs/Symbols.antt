@@ -1,22 +1,15 @@
 -- Symbols (PE/COFF, "COFF Symbol Table", "Storage Class", "Section Number Values" and "Auxiliary Format 3: Weak Externals"; our profile).
-use Rattle.std.specs.Prelude.{ℕ, Bool, false, not, ◌&&◌, ◌||◌, nat_eq, if◌then◌else◌, List, Option, Some, None, filter_map}
-use Rattle.std.specs.List.{list_any}
+use Rattle.std.specs.{Prelude.{ℕ, Bool, false, not, ◌&&◌, ◌||◌, nat_eq, if◌then◌else◌, List, Option, Some, None, filter_map}, List.{list_any}}
 use Rattle.std.specs.Option.{option_map, option_map_or, option_and_then}
-use Rattle.oc_linking.specs.declared.terms.Mark.TheVariants.{NoType, Function}
-use Rattle.oc_linking.specs.declared.terms.Visibility.TheVariants.{Default}
-use Rattle.oc_linking.specs.declared.terms.Value.{Value}
+use Rattle.oc_linking.specs.{declared.terms.Mark.TheVariants.{NoType, Function}, declared.terms.Visibility.TheVariants.{Default}, declared.terms.Value.{Value}}
+use Rattle.oc_linking.specs.{declared.terms.Fallback.{Fallback}, declared.terms.Binding.{Binding}}
+use Rattle.oc_linking.specs.{declared.terms.Binding.TheVariants.{Local, Global, Undefined, Common, Weak}, Parts.{Section, Symbol}}
 use Rattle.oc_linking.specs.declared.terms.Value.TheVariants as value
-use Rattle.oc_linking.specs.declared.terms.Fallback.{Fallback}
 use Rattle.oc_linking.specs.declared.terms.Fallback.TheVariants as fallback
-use Rattle.oc_linking.specs.declared.terms.Binding.{Binding}
-use Rattle.oc_linking.specs.declared.terms.Binding.TheVariants.{Local, Global, Undefined, Common, Weak}
-use Rattle.oc_linking.specs.Parts.{Section, Symbol}
 use Rattle.oc_neutral.specs.Powers.{natural_align}
 use Rattle.oc_coff.specs.declared.symbol.SymbolEntry.{SymbolEntry}
 use Rattle.oc_coff.specs.declared.constants.TheConstants.{IMAGE_SYM_UNDEFINED, IMAGE_SYM_ABSOLUTE, IMAGE_SYM_TYPE_FUNCTION, IMAGE_SYM_CLASS_EXTERNAL, IMAGE_SYM_CLASS_STATIC, IMAGE_SYM_CLASS_LABEL, IMAGE_SYM_CLASS_WEAK_EXTERNAL}
-use Rattle.oc_coff.specs.Tables.{Slot, Tables}
-use Rattle.oc_coff.specs.Names.{is_nothing}
-use Rattle.oc_coff.specs.Sections.{sections_in, position_of}
+use Rattle.oc_coff.specs.{Tables.{Slot, Tables}, Names.{is_nothing}, Sections.{sections_in, position_of}}
 use Rattle.oc_coff.specs.Entries.{Entry, entries_in, entry_numbered, name_of, is_class, has_section}
 
 -- the number of the symbol that a weak external tags: its default

@@ -2,26 +2,14 @@
 -- "COFF String Table").
 use Rattle.std.specs.Prelude.{ℕ, ◌+◌, ◌-◌, ◌*◌, Bool, not, ◌&&◌, nat_eq, nat_lt, if◌then◌else◌, List, [], length, take, drop, map}
 use Rattle.oc_base.specs.Numbers.{number_at}
-use Rattle.oc_neutral.specs.KindRules.{has}
-use Rattle.oc_neutral.specs.declared.coff.TheConstants.{IMAGE_SCN_LNK_NRELOC_OVFL}
+use Rattle.oc_neutral.specs.{KindRules.{has}, declared.coff.TheConstants.{IMAGE_SCN_LNK_NRELOC_OVFL}}
 use Rattle.oc_shelf.specs.Reading.Rows.{rows}
-use Rattle.oc_coff.specs.declared.constants.TheConstants.{OVERFLOWED_COUNT}
-use Rattle.oc_coff.specs.declared.section_header.TheConstants.{SECTION_HEADER_SIZE}
-use Rattle.oc_coff.specs.declared.relocation.TheConstants.{RELOCATION_SIZE}
-use Rattle.oc_coff.specs.declared.file_header.FileHeader.{FileHeader}
-use Rattle.oc_coff.specs.declared.form.Shape.{Shape}
-use Rattle.oc_coff.specs.declared.section_header.SectionHeader.{SectionHeader}
-use Rattle.oc_coff.specs.declared.symbol.SymbolEntry.{SymbolEntry}
-use Rattle.oc_coff.specs.declared.section_aux.SectionAux.{SectionAux}
-use Rattle.oc_coff.specs.declared.weak_aux.WeakAux.{WeakAux}
-use Rattle.oc_coff.specs.declared.relocation.Relocation.{Relocation}
-use Rattle.oc_coff.specs.Forms.{header_size, symbol_size}
-use Rattle.oc_coff.specs.FileHeader.{file_header_of}
-use Rattle.oc_coff.specs.SectionHeader.{section_header_at}
-use Rattle.oc_coff.specs.SymbolEntry.{symbol_at}
-use Rattle.oc_coff.specs.SectionAux.{section_aux_at}
-use Rattle.oc_coff.specs.WeakAux.{weak_aux_at}
-use Rattle.oc_coff.specs.Relocation.{relocation_at}
+use Rattle.oc_coff.specs.{declared.constants.TheConstants.{OVERFLOWED_COUNT}, declared.section_header.TheConstants.{SECTION_HEADER_SIZE}}
+use Rattle.oc_coff.specs.{declared.relocation.TheConstants.{RELOCATION_SIZE}, declared.file_header.FileHeader.{FileHeader}, declared.form.Shape.{Shape}}
+use Rattle.oc_coff.specs.{declared.section_header.SectionHeader.{SectionHeader}, declared.symbol.SymbolEntry.{SymbolEntry}}
+use Rattle.oc_coff.specs.{declared.section_aux.SectionAux.{SectionAux}, declared.weak_aux.WeakAux.{WeakAux}, declared.relocation.Relocation.{Relocation}}
+use Rattle.oc_coff.specs.{Forms.{header_size, symbol_size}, FileHeader.{file_header_of}, SectionHeader.{section_header_at}, SymbolEntry.{symbol_at}}
+use Rattle.oc_coff.specs.{SectionAux.{section_aux_at}, WeakAux.{weak_aux_at}, Relocation.{relocation_at}}
 
 -- a section: its header, the bytes at its pointer (none where that is 0), and its relocation entries with the place of the first
 pub record SectionTable : Type 0 where

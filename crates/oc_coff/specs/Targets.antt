@@ -1,17 +1,11 @@
 -- What the symbol of a relocation entry stands for (PE/COFF, "COFF Relocations"; our profile).
-use Rattle.std.specs.Prelude.{ℕ, Bool, false, if◌then◌else◌, List, Option, Some, None}
-use Rattle.std.specs.Option.{option_map, option_and_then}
+use Rattle.std.specs.{Prelude.{ℕ, Bool, false, if◌then◌else◌, List, Option, Some, None}, Option.{option_map, option_and_then}}
 use Rattle.oc_base.specs.declared.format.Word.{Word}
-use Rattle.oc_linking.specs.declared.terms.Value.{Value}
+use Rattle.oc_linking.specs.{declared.terms.Value.{Value}, Parts.{Section, Symbol}, Targets.{Target, symbol_target}}
 use Rattle.oc_linking.specs.declared.terms.Value.TheVariants as value
-use Rattle.oc_linking.specs.Parts.{Section, Symbol}
-use Rattle.oc_linking.specs.Targets.{Target, symbol_target}
 use Rattle.oc_shows.specs.RowFields.{place_target}
 use Rattle.oc_neutral.specs.TargetRelocations.{is_homeless}
-use Rattle.oc_coff.specs.Tables.{Tables}
-use Rattle.oc_coff.specs.Sections.{sections_in}
-use Rattle.oc_coff.specs.Entries.{Entry, entries_in, entry_numbered}
-use Rattle.oc_coff.specs.Symbols.{is_own, value_of, symbol_of}
+use Rattle.oc_coff.specs.{Tables.{Tables}, Sections.{sections_in}, Entries.{Entry, entries_in, entry_numbered}, Symbols.{is_own, value_of, symbol_of}}
 
 -- a target, and whether it lies in no section wherever it is placed
 pub record Aim : Type 0 where

@@ -2,9 +2,7 @@
 use Rattle.std.specs.Prelude.{ℕ, ◌+◌, List, [], ◌∷◌}
 use Rattle.oc_base.specs.Numbers.{number_at}
 use Rattle.oc_shelf.specs.Writing.Packed.{packed}
-use Rattle.oc_coff.specs.declared.form.Shape.{Shape}
-use Rattle.oc_coff.specs.declared.form.Shape.TheVariants.{Usual, Big}
-use Rattle.oc_coff.specs.declared.weak_aux.WeakAux.{WeakAux}
+use Rattle.oc_coff.specs.{declared.form.Shape.{Shape}, declared.form.Shape.TheVariants.{Usual, Big}, declared.weak_aux.WeakAux.{WeakAux}}
 
 -- the auxiliary entry at a place of the file
 unfoldable pub weak_aux_at : List ℕ → ℕ → WeakAux

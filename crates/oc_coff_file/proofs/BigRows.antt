@@ -3,26 +3,14 @@ use Rattle.std.proofs.Common.{◌≡◌, ℕ, List, [], ◌∷◌, refl}
 use Rattle.std.specs.Fmt.{digits}
 use Rattle.oc_base.specs.Strings as strings
 use Rattle.oc_base.specs.Numbers.{bytes_of_number, number_at}
-use Rattle.oc_algebra.specs.Fields.{field_for, to_field_of}
-use Rattle.oc_algebra.specs.Residues.{reduced_number, residue_of}
-use Rattle.oc_neutral.specs.HomeNames.{output_names, wanted_names}
-use Rattle.oc_neutral.specs.Spelling.{written_row}
-use Rattle.oc_coff.specs.FileHeader.{file_header_bytes}
-use Rattle.oc_coff.specs.SectionHeader.{section_header_bytes}
-use Rattle.oc_coff.specs.SymbolEntry.{symbol_at, symbol_bytes}
-use Rattle.oc_coff.specs.SectionAux.{section_aux_at, section_aux_bytes}
-use Rattle.oc_coff.specs.WeakAux.{weak_aux_bytes}
-use Rattle.oc_coff.specs.Relocation.{relocation_bytes}
-use Rattle.oc_coff_file.specs.Lines.{lines_of}
-use Rattle.oc_coff_file.specs.Layout.{parts_of, text_of}
-use Rattle.oc_coff_file.specs.Bodies.{field_number, raw_of, relocs_of, type_of}
-use Rattle.oc_neutral.specs.Coff.Strings.{coff_strings, string_offset}
+use Rattle.oc_algebra.specs.{Fields.{field_for, to_field_of}, Residues.{reduced_number, residue_of}}
+use Rattle.oc_neutral.specs.{HomeNames.{output_names, wanted_names}, Spelling.{written_row}, Coff.Strings.{coff_strings, string_offset}}
+use Rattle.oc_coff.specs.{FileHeader.{file_header_bytes}, SectionHeader.{section_header_bytes}, SymbolEntry.{symbol_at, symbol_bytes}}
+use Rattle.oc_coff.specs.{SectionAux.{section_aux_at, section_aux_bytes}, WeakAux.{weak_aux_bytes}, Relocation.{relocation_bytes}, Flags.{align_field}}
+use Rattle.oc_coff.specs.{declared.form.CoffForm.TheVariants.{Big32, Big64}, declared.form.Shape.TheVariants.{Big}}
+use Rattle.oc_coff.specs.{declared.section_aux.SectionAux.{SectionAux}, declared.symbol.SymbolEntry.{SymbolEntry}}
+use Rattle.oc_coff_file.specs.{Lines.{lines_of}, Layout.{parts_of, text_of}, Bodies.{field_number, raw_of, relocs_of, type_of}}
 use Rattle.oc_coff_file.specs.Canonical.{coff_file, part_bytes, file_header, line_rows, header_at, leader_number, section_field, symbol_field}
-use Rattle.oc_coff.specs.Flags.{align_field}
-use Rattle.oc_coff.specs.declared.form.CoffForm.TheVariants.{Big32, Big64}
-use Rattle.oc_coff.specs.declared.form.Shape.TheVariants.{Big}
-use Rattle.oc_coff.specs.declared.section_aux.SectionAux.{SectionAux}
-use Rattle.oc_coff.specs.declared.symbol.SymbolEntry.{SymbolEntry}
 use Rattle.oc_coff.proofs.BigFiles.{big_call, big_call_64, big_grouped, big_weakened, big_tails, big_manifold}
 use Rattle.oc_coff_file.proofs.CanonicalRows.{call_32, call_64, group, weak_definition, shared_tail, everything}
 

@@ -1,52 +1,29 @@
 -- Canonical files of objects, computed, and compared with worked files of our own and of others; one file with everything was put together by hand.
 use Rattle.std.proofs.Common.{◌≡◌, ℕ, List, [], ◌∷◌, Some, None, Option, refl, ℤ, false}
-use Rattle.std.specs.Prelude.{codes, replicate, pos, negsuc}
-use Rattle.std.specs.Fmt.{digits}
+use Rattle.std.specs.{Prelude.{codes, replicate, pos, negsuc}, Fmt.{digits}}
 use Rattle.oc_base.specs.Strings as strings
-use Rattle.oc_base.specs.Numbers.{bytes_of_number}
-use Rattle.oc_algebra.specs.Fields.{field_for, to_field_of}
-use Rattle.oc_algebra.specs.Residues.{reduced_number, residue_of}
-use Rattle.oc_neutral.specs.HomeNames.{output_names, wanted_names}
-use Rattle.oc_neutral.specs.Spelling.{written_row}
-use Rattle.oc_base.specs.declared.format.Format.TheVariants.{Coff32, Coff64}
-use Rattle.oc_coff.specs.declared.form.CoffForm.TheVariants.{Usual32, Usual64}
-use Rattle.oc_linking.specs.declared.terms.Base.{Base}
+use Rattle.oc_base.specs.{Numbers.{bytes_of_number}, declared.format.Format.TheVariants.{Coff32, Coff64}}
+use Rattle.oc_algebra.specs.{Fields.{field_for, to_field_of}, Residues.{reduced_number, residue_of}}
+use Rattle.oc_neutral.specs.{HomeNames.{output_names, wanted_names}, Spelling.{written_row}, declared.section.Section.{Section}}
+use Rattle.oc_neutral.specs.{declared.symbol.Symbol.{Symbol}, declared.reloc.Reloc.{Reloc}, declared.reloc.Target.{Target}, Objects.{Object}}
+use Rattle.oc_neutral.specs.Coff.Strings.{coff_strings, string_offset}
+use Rattle.oc_coff.specs.{declared.form.CoffForm.TheVariants.{Usual32, Usual64}, FileHeader.{file_header_bytes}, SectionHeader.{section_header_bytes}}
+use Rattle.oc_coff.specs.{SymbolEntry.{symbol_bytes}, SectionAux.{section_aux_bytes}, WeakAux.{weak_aux_bytes}, Relocation.{relocation_bytes}}
+use Rattle.oc_coff.specs.Flags.{align_field}
+use Rattle.oc_linking.specs.{declared.terms.Base.{Base}, declared.terms.Less.{Less}, declared.terms.Width.{Width}}
+use Rattle.oc_linking.specs.{declared.terms.Width.TheVariants.{Two, Four, Eight}, declared.terms.Check.{Check}}
+use Rattle.oc_linking.specs.{declared.terms.Check.TheVariants.{Wrap, Signed, Unsigned}, declared.terms.Hint.TheVariants.{Plain}, declared.terms.Kind.{Kind}}
+use Rattle.oc_linking.specs.{declared.terms.Mark.{Mark}, declared.terms.Mark.TheVariants.{NoType, Function}, declared.terms.Visibility.TheVariants.{Default}}
+use Rattle.oc_linking.specs.{declared.terms.Binding.{Binding}, declared.terms.Binding.TheVariants.{Local, Global, Undefined, Common, Weak}}
 use Rattle.oc_linking.specs.declared.terms.Base.TheVariants as base
-use Rattle.oc_linking.specs.declared.terms.Less.{Less}
 use Rattle.oc_linking.specs.declared.terms.Less.TheVariants as less
-use Rattle.oc_linking.specs.declared.terms.Width.{Width}
-use Rattle.oc_linking.specs.declared.terms.Width.TheVariants.{Two, Four, Eight}
-use Rattle.oc_linking.specs.declared.terms.Check.{Check}
-use Rattle.oc_linking.specs.declared.terms.Check.TheVariants.{Wrap, Signed, Unsigned}
-use Rattle.oc_linking.specs.declared.terms.Hint.TheVariants.{Plain}
-use Rattle.oc_linking.specs.declared.terms.Kind.{Kind}
 use Rattle.oc_linking.specs.declared.terms.Kind.TheVariants as kind
-use Rattle.oc_linking.specs.declared.terms.Mark.{Mark}
-use Rattle.oc_linking.specs.declared.terms.Mark.TheVariants.{NoType, Function}
-use Rattle.oc_linking.specs.declared.terms.Visibility.TheVariants.{Default}
 use Rattle.oc_linking.specs.declared.terms.Value.TheVariants as value
 use Rattle.oc_linking.specs.declared.terms.Fallback.TheVariants as fallback
-use Rattle.oc_linking.specs.declared.terms.Binding.{Binding}
-use Rattle.oc_linking.specs.declared.terms.Binding.TheVariants.{Local, Global, Undefined, Common, Weak}
 use Rattle.oc_chains.specs.declared.field.Field.{Field}
-use Rattle.oc_neutral.specs.declared.section.Section.{Section}
-use Rattle.oc_neutral.specs.declared.symbol.Symbol.{Symbol}
-use Rattle.oc_neutral.specs.declared.reloc.Reloc.{Reloc}
-use Rattle.oc_neutral.specs.declared.reloc.Target.{Target}
 use Rattle.oc_neutral.specs.declared.reloc.Target.TheVariants as target
-use Rattle.oc_neutral.specs.Objects.{Object}
-use Rattle.oc_coff.specs.FileHeader.{file_header_bytes}
-use Rattle.oc_coff.specs.SectionHeader.{section_header_bytes}
-use Rattle.oc_coff.specs.SymbolEntry.{symbol_bytes}
-use Rattle.oc_coff.specs.SectionAux.{section_aux_bytes}
-use Rattle.oc_coff.specs.WeakAux.{weak_aux_bytes}
-use Rattle.oc_coff.specs.Relocation.{relocation_bytes}
-use Rattle.oc_coff_file.specs.Lines.{lines_of}
-use Rattle.oc_coff_file.specs.Layout.{parts_of, text_of}
-use Rattle.oc_coff_file.specs.Bodies.{field_number, raw_of, relocs_of, type_of}
-use Rattle.oc_neutral.specs.Coff.Strings.{coff_strings, string_offset}
+use Rattle.oc_coff_file.specs.{Lines.{lines_of}, Layout.{parts_of, text_of}, Bodies.{field_number, raw_of, relocs_of, type_of}}
 use Rattle.oc_coff_file.specs.Canonical.{coff_file, part_bytes, file_header, line_rows, header_at, leader_number, section_field, symbol_field}
-use Rattle.oc_coff.specs.Flags.{align_field}
 use Rattle.oc_coff.proofs.WorkedFiles.{call, grouped, weakened, tails, manifold}
 
 -- a section

@@ -1,60 +1,34 @@
 -- The numbers in the structures of a canonical file fit their widths.
 use Rattle.std.proofs.Common.{◌≡◌, ℕ, zero, suc, ◌+◌, ◌*◌, ◌^◌, ◌<◌, ◌≤◌, Bool, true, false, cond, eqb, List, [], ◌∷◌, length, map, Option, Some, None, refl, sym, ap, subst, arith, inl, inr}
-use Rattle.std.specs.Prelude.{slice_get, min, flat_map}
-use Rattle.std.specs.Option.{option_map_or}
-use Rattle.std.proofs.lemmas.Bool.{cases_lt}
-use Rattle.std.proofs.lemmas.Option.{same_Some, slice_get_within}
-use Rattle.oc_base.specs.declared.format.Word.{Word}
-use Rattle.oc_coff.specs.declared.form.CoffForm.{CoffForm}
-use Rattle.oc_coff.specs.declared.form.Shape.{Shape}
-use Rattle.oc_coff.specs.declared.form.Shape.TheVariants.{Usual, Big}
-use Rattle.oc_coff.specs.Forms.{shape_of, word_of}
-use Rattle.oc_coff.specs.FileHeader.{file_header_numbers}
-use Rattle.oc_coff.specs.SectionAux.{section_aux_numbers}
-use Rattle.oc_base.specs.declared.format.Word.TheVariants.{W32, W64}
-use Rattle.oc_base.proofs.NumberLaws.{length-table}
-use Rattle.oc_linking.specs.declared.terms.Mark.{Mark}
-use Rattle.oc_linking.specs.declared.terms.Mark.TheVariants.{NoType, Object as ObjectMark, Function}
-use Rattle.oc_linking.specs.declared.terms.Value.{Value}
-use Rattle.oc_linking.specs.declared.terms.Fallback.{Fallback}
-use Rattle.oc_linking.specs.declared.terms.Binding.{Binding}
-use Rattle.oc_linking.specs.declared.terms.Binding.TheVariants.{Local, Global, Undefined, Common, Weak}
-use Rattle.oc_linking.specs.Parts.{is_local}
-use Rattle.oc_chains.specs.Lists.{list_of}
-use Rattle.oc_neutral.specs.declared.section.Section.{Section}
-use Rattle.oc_neutral.specs.declared.reloc.Reloc.{Reloc}
-use Rattle.oc_neutral.specs.declared.reloc.Target.{Target}
-use Rattle.oc_neutral.specs.Objects.{Object, reloc_at}
-use Rattle.oc_neutral.specs.Coff.Strings.{has_default}
-use Rattle.oc_shows.specs.SymbolLines.{is_weak_with}
-use Rattle.oc_neutral.proofs.Positions.{there_at}
-use Rattle.oc_neutral.proofs.Adding.{wide_enough}
-use Rattle.oc_shelf.specs.Writing.Parts.{place_where}
-use Rattle.oc_shelf.proofs.WritingLaws.PackedLemmas.{Fit}
-use Rattle.oc_shelf.proofs.WritingLaws.PartLemmas.{IsFound, laid_within}
-use Rattle.oc_shelf.proofs.WritingLaws.StandingLemmas.{stands_inside}
-use Rattle.oc_shelf.proofs.WritingLaws.MemberLemmas.{of_map}
-use Rattle.oc_coff.specs.declared.relocation.Relocation.{Relocation}
-use Rattle.oc_coff.specs.Relocation.{relocation_bytes}
-use Rattle.oc_coff_file.specs.Lines.{Line, SectionLine, LocalLine, DefaultLine, OuterLine, lines_of, line_size, numbered_lines, is_section_line, is_default_line, is_outer_line}
-use Rattle.oc_coff_file.specs.Bodies.{raw_of, target_number, relocation_of, relocs_of}
+use Rattle.std.specs.{Prelude.{slice_get, min, flat_map}, Option.{option_map_or}}
+use Rattle.std.proofs.lemmas.{Bool.{cases_lt}, Option.{same_Some, slice_get_within}}
+use Rattle.oc_base.specs.{declared.format.Word.{Word}, declared.format.Word.TheVariants.{W32, W64}}
+use Rattle.oc_coff.specs.{declared.form.CoffForm.{CoffForm}, declared.form.Shape.{Shape}, declared.form.Shape.TheVariants.{Usual, Big}}
+use Rattle.oc_coff.specs.{Forms.{shape_of, word_of}, FileHeader.{file_header_numbers}, SectionAux.{section_aux_numbers}}
+use Rattle.oc_coff.specs.{declared.relocation.Relocation.{Relocation}, Relocation.{relocation_bytes}}
 use Rattle.oc_coff.specs.Flags.{is_crowded, count_entry, with_count, pointer_to, machine_of, version_of}
-use Rattle.oc_coff_file.specs.Layout.{laid_parts, is_raw, is_relocs, StringTable, text_of}
-use Rattle.oc_coff_file.specs.Canonical.{leads, leader_number, header_at, line_entry, section_aux, tag_of, weak_aux, file_header, string_table, coff_file, part_bytes}
 use Rattle.oc_coff.specs.Values.{numbers_of, numbers_by, default_numbers, type_by, class_by, aux_by}
+use Rattle.oc_base.proofs.NumberLaws.{length-table}
+use Rattle.oc_linking.specs.{declared.terms.Mark.{Mark}, declared.terms.Mark.TheVariants.{NoType, Object as ObjectMark, Function}, declared.terms.Value.{Value}}
+use Rattle.oc_linking.specs.{declared.terms.Fallback.{Fallback}, declared.terms.Binding.{Binding}}
+use Rattle.oc_linking.specs.{declared.terms.Binding.TheVariants.{Local, Global, Undefined, Common, Weak}, Parts.{is_local}}
+use Rattle.oc_chains.specs.Lists.{list_of}
+use Rattle.oc_neutral.specs.{declared.section.Section.{Section}, declared.reloc.Reloc.{Reloc}, declared.reloc.Target.{Target}, Objects.{Object, reloc_at}}
+use Rattle.oc_neutral.specs.{Coff.Strings.{has_default}, Building.{is_zero}, Invariants.{IsThere}}
+use Rattle.oc_shows.specs.SymbolLines.{is_weak_with}
+use Rattle.oc_neutral.proofs.{Positions.{there_at}, Adding.{wide_enough}}
+use Rattle.oc_shelf.specs.Writing.Parts.{place_where}
+use Rattle.oc_shelf.proofs.{WritingLaws.PackedLemmas.{Fit}, WritingLaws.PartLemmas.{IsFound, laid_within}, WritingLaws.StandingLemmas.{stands_inside}}
+use Rattle.oc_shelf.proofs.WritingLaws.MemberLemmas.{of_map}
+use Rattle.oc_coff_file.specs.Lines.{Line, SectionLine, LocalLine, DefaultLine, OuterLine, lines_of, line_size, numbered_lines, is_section_line, is_default_line, is_outer_line}
+use Rattle.oc_coff_file.specs.{Bodies.{raw_of, target_number, relocation_of, relocs_of}, Layout.{laid_parts, is_raw, is_relocs, StringTable, text_of}}
+use Rattle.oc_coff_file.specs.Canonical.{leads, leader_number, header_at, line_entry, section_aux, tag_of, weak_aux, file_header, string_table, coff_file, part_bytes}
 use Rattle.oc_coff_file.proofs.StructureLaws.{section_header_numbers, relocation_numbers, length-relocation_bytes, FitSymbol, IsNumber, low_number, absolute_number, low_other, fit_symbol, fit_section_aux, fit_weak_aux, fit_file_header, IsOther}
-use Rattle.oc_coff_file.proofs.PartLaws.{stands_raw, stands_relocs, table_place_is, length-coff_file, part_sized}
-use Rattle.oc_coff_file.proofs.TableLaws.{IsCodable}
-use Rattle.oc_coff_file.proofs.EntryLaws.{IsEntered}
-use Rattle.oc_coff_file.proofs.LineLaws.{section_found, default_found, outer_found, line_is_of, IsLineOf}
+use Rattle.oc_coff_file.proofs.{PartLaws.{stands_raw, stands_relocs, table_place_is, length-coff_file, part_sized}, TableLaws.{IsCodable}}
+use Rattle.oc_coff_file.proofs.{EntryLaws.{IsEntered}, LineLaws.{section_found, default_found, outer_found, line_is_of, IsLineOf}}
 use Rattle.oc_coff_file.proofs.CodedLaws.{IsForCoff, IsCodedValue, IsCodedFallback, IsCodedBinding, coded_section, coded_line, outer_coded, IsCodedLine, fewest, number_room, other_room, counted_room}
-use Rattle.oc_coff_file.proofs.SectionLaws.{flags_say}
-use Rattle.oc_coff_file.proofs.GroupLaws.{leader_of}
-use Rattle.oc_coff_file.proofs.FieldLaws.{coff_reloc, meets, type_is, has_bytes}
-use Rattle.oc_coff_file.proofs.SymbolLaws.{AreTagged}
+use Rattle.oc_coff_file.proofs.{SectionLaws.{flags_say}, GroupLaws.{leader_of}, FieldLaws.{coff_reloc, meets, type_is, has_bytes}, SymbolLaws.{AreTagged}}
 use Rattle.oc_coff_file.proofs.SizeLaws.{small_file, few_entries}
-use Rattle.oc_neutral.specs.Building.{is_zero}
-use Rattle.oc_neutral.specs.Invariants.{IsThere}
 use Rattle.oc_linking.specs.declared.terms.Value.TheVariants as value
 use Rattle.oc_linking.specs.declared.terms.Fallback.TheVariants as fallback
 use Rattle.oc_chains.specs.declared.field.Field as chains

@@ -1,47 +1,27 @@
 -- What COFF can say of an object that is ready for it: of its sections, and of the symbols of its lines.
-use Rattle.oc_coff.specs.declared.form.Shape.TheVariants.{Usual}
-use Rattle.oc_coff_file.proofs.StructureLaws.{IsNumber, IsOther, IsCounted, low_number}
+use Rattle.oc_coff.specs.{declared.form.Shape.TheVariants.{Usual}, declared.form.CoffForm.{CoffForm}}
+use Rattle.oc_coff.specs.{declared.form.CoffForm.TheVariants.{Usual32, Usual64, Big32, Big64}, Forms.{format_of, shape_of}, Values.{class_by}}
+use Rattle.oc_coff_file.proofs.{StructureLaws.{IsNumber, IsOther, IsCounted, low_number}, LineLaws.{IsLineOf, line_is_of}}
 use Rattle.std.proofs.Common.{◌+◌, ◌≡◌, ℕ, ◌^◌, ◌<◌, ◌≤◌, ◌≢◌, Bool, true, false, cond, not, List, [], ◌∷◌, length, Some, refl, sym, ◌∙◌, ap, subst, arith}
-use Rattle.std.specs.Prelude.{slice_get, nat_lt}
-use Rattle.std.specs.Option.{unwrap_or}
+use Rattle.std.specs.{Prelude.{slice_get, nat_lt}, Option.{unwrap_or}}
 use Rattle.std.proofs.lemmas.Bool.{true≢false, ltb-true}
-use Rattle.oc_coff.specs.declared.form.CoffForm.{CoffForm}
-use Rattle.oc_coff.specs.declared.form.CoffForm.TheVariants.{Usual32, Usual64, Big32, Big64}
-use Rattle.oc_base.specs.Formats.{word_for}
-use Rattle.oc_base.specs.Strings.{is_given}
-use Rattle.oc_linking.specs.Numbers.{modulus}
-use Rattle.oc_linking.specs.declared.terms.Kind.{Kind}
-use Rattle.oc_linking.specs.declared.terms.Kind.TheVariants.{Code, ReadOnly, Data, Zero, Init, Fini, Debug, Exception, Note}
-use Rattle.oc_linking.specs.declared.terms.Value.{Value}
+use Rattle.oc_base.specs.{Formats.{word_for}, Strings.{is_given}}
+use Rattle.oc_linking.specs.{Numbers.{modulus}, declared.terms.Kind.{Kind}}
+use Rattle.oc_linking.specs.{declared.terms.Kind.TheVariants.{Code, ReadOnly, Data, Zero, Init, Fini, Debug, Exception, Note}, declared.terms.Value.{Value}}
+use Rattle.oc_linking.specs.{declared.terms.Fallback.{Fallback}, declared.terms.Binding.{Binding}}
+use Rattle.oc_linking.specs.{declared.terms.Binding.TheVariants.{Local, Global, Undefined, Common, Weak}, Parts.{is_local}}
 use Rattle.oc_linking.specs.declared.terms.Value.TheVariants as value
-use Rattle.oc_linking.specs.declared.terms.Fallback.{Fallback}
 use Rattle.oc_linking.specs.declared.terms.Fallback.TheVariants as fallback
-use Rattle.oc_linking.specs.declared.terms.Binding.{Binding}
-use Rattle.oc_linking.specs.declared.terms.Binding.TheVariants.{Local, Global, Undefined, Common, Weak}
-use Rattle.oc_linking.specs.Parts.{is_local}
-use Rattle.oc_neutral.specs.declared.section.Section.{Section}
-use Rattle.oc_neutral.specs.declared.symbol.Symbol.{Symbol}
-use Rattle.oc_neutral.specs.declared.coff.TheConstants.{IMAGE_SCN_CNT_UNINITIALIZED_DATA, MOST_NAME_OFFSET}
-use Rattle.oc_neutral.specs.Objects.{Object}
-use Rattle.oc_neutral.specs.Building.{is_zero}
-use Rattle.oc_neutral.specs.Invariants.{IsObject, IsBinding, IsFallback, IsSymbol, HasItsBytes, is_strong}
-use Rattle.oc_neutral.specs.Powers.{natural_align}
-use Rattle.oc_neutral.specs.KindRules.{has, has_nul, same_kind}
-use Rattle.oc_neutral.specs.Family.{IsCoff}
-use Rattle.oc_neutral.specs.Families.{container_of}
-use Rattle.oc_neutral.specs.Coff.Kinds.{coff_kind, coff_tag}
-use Rattle.oc_neutral.specs.Coff.Strings.{is_long, is_tabled, has_default, default_name}
-use Rattle.oc_target.specs.CoffMeets.{strings_of, offset_of, MeetsCoff, CoffSection, CoffSymbol}
-use Rattle.oc_target.specs.Fitted.{IsFitted}
-use Rattle.oc_shows.specs.Manners.{coff_manner}
-use Rattle.oc_shows.specs.SymbolLines.{needs_default, is_weak_with}
-use Rattle.oc_neutral.specs.WrittenSymbols.{is_written, is_written_as}
+use Rattle.oc_neutral.specs.{declared.section.Section.{Section}, declared.symbol.Symbol.{Symbol}}
+use Rattle.oc_neutral.specs.{declared.coff.TheConstants.{IMAGE_SCN_CNT_UNINITIALIZED_DATA, MOST_NAME_OFFSET}, Objects.{Object}, Building.{is_zero}}
+use Rattle.oc_neutral.specs.{Invariants.{IsObject, IsBinding, IsFallback, IsSymbol, HasItsBytes, is_strong}, Powers.{natural_align}}
+use Rattle.oc_neutral.specs.{KindRules.{has, has_nul, same_kind}, Family.{IsCoff}, Families.{container_of}, Coff.Kinds.{coff_kind, coff_tag}}
+use Rattle.oc_neutral.specs.{Coff.Strings.{is_long, is_tabled, has_default, default_name}, WrittenSymbols.{is_written, is_written_as}}
+use Rattle.oc_target.specs.{CoffMeets.{strings_of, offset_of, MeetsCoff, CoffSection, CoffSymbol}, Fitted.{IsFitted}}
+use Rattle.oc_shows.specs.{Manners.{coff_manner}, SymbolLines.{needs_default, is_weak_with}}
 use Rattle.oc_target.proofs.MeetsCoff.{meets_coff}
 use Rattle.oc_neutral.proofs.Positions.{each_at}
-use Rattle.oc_coff.specs.Forms.{format_of, shape_of}
 use Rattle.oc_coff_file.specs.Lines.{Line, SectionLine, LocalLine, DefaultLine, OuterLine, lines_of}
-use Rattle.oc_coff.specs.Values.{class_by}
-use Rattle.oc_coff_file.proofs.LineLaws.{IsLineOf, line_is_of}
 
 -- an object that is ready for COFF, and what it meets
 pub record IsForCoff (w : CoffForm) (n : Object) : Type 0 where

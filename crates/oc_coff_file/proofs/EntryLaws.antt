@@ -2,27 +2,18 @@
 use Rattle.std.proofs.Common.{◌≡◌, ℕ, suc, ◌+◌, cond, eqb, List, [], ◌∷◌, ◌++◌, length, map, Option, Some, None, refl, sym, ◌∙◌, ap, arith, append-nil}
 use Rattle.std.specs.Prelude.{slice_get, flat_map}
 use Rattle.std.proofs.lemmas.List.{length-map}
-use Rattle.oc_coff.specs.declared.form.CoffForm.{CoffForm}
-use Rattle.oc_coff.specs.declared.form.Shape.{Shape}
-use Rattle.oc_coff.specs.Forms.{shape_of}
-use Rattle.oc_linking.specs.declared.terms.Binding.{Binding}
-use Rattle.oc_linking.specs.declared.terms.Binding.TheVariants.{Local, Global, Undefined, Common, Weak}
+use Rattle.oc_coff.specs.{declared.form.CoffForm.{CoffForm}, declared.form.Shape.{Shape}, Forms.{shape_of}, declared.symbol.SymbolEntry.{SymbolEntry}}
+use Rattle.oc_coff.specs.{SymbolEntry.{symbol_bytes}, SectionAux.{section_aux_at, section_aux_bytes, section_aux_numbers}}
+use Rattle.oc_coff.specs.{WeakAux.{weak_aux_at, weak_aux_bytes, weak_aux_numbers}, Tables.{Slot, slot_at}, Entries.{Entry, first_of, symbols_from, entries_in}}
+use Rattle.oc_coff.specs.Values.{aux_by}
+use Rattle.oc_linking.specs.{declared.terms.Binding.{Binding}, declared.terms.Binding.TheVariants.{Local, Global, Undefined, Common, Weak}}
 use Rattle.oc_linking.specs.declared.terms.Fallback.{Fallback}
-use Rattle.oc_neutral.specs.declared.section.Section.{Section}
-use Rattle.oc_neutral.specs.Objects.{Object}
+use Rattle.oc_neutral.specs.{declared.section.Section.{Section}, Objects.{Object}}
 use Rattle.oc_shelf.specs.Writing.Parts.{Laid, laid, behind}
 use Rattle.oc_shelf.proofs.WritingLaws.PackedLemmas.{Fit}
-use Rattle.oc_coff.specs.declared.symbol.SymbolEntry.{SymbolEntry}
-use Rattle.oc_coff.specs.SymbolEntry.{symbol_bytes}
-use Rattle.oc_coff.specs.SectionAux.{section_aux_at, section_aux_bytes, section_aux_numbers}
-use Rattle.oc_coff.specs.WeakAux.{weak_aux_at, weak_aux_bytes, weak_aux_numbers}
-use Rattle.oc_coff.specs.Tables.{Slot, slot_at}
-use Rattle.oc_coff.specs.Entries.{Entry, first_of, symbols_from, entries_in}
 use Rattle.oc_coff_file.specs.Lines.{Line, SectionLine, LocalLine, DefaultLine, OuterLine, lines_of, line_size, numbered_lines}
 use Rattle.oc_coff_file.specs.Canonical.{line_entry, section_aux, weak_aux, outer_aux, line_aux, line_rows}
-use Rattle.oc_coff.specs.Values.{aux_by}
-use Rattle.oc_coff_file.proofs.StructureLaws.{FitSymbol, section_aux_at-bytes, weak_aux_at-bytes}
-use Rattle.oc_coff_file.proofs.PartLaws.{field_is_eight, length-line_rows}
+use Rattle.oc_coff_file.proofs.{StructureLaws.{FitSymbol, section_aux_at-bytes, weak_aux_at-bytes}, PartLaws.{field_is_eight, length-line_rows}}
 use Rattle.oc_coff_file.proofs.TableLaws.{read_row, symbol_whole, made_tables}
 
 -- entries that are passed over

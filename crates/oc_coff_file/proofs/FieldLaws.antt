@@ -1,62 +1,32 @@
 -- The fields of a canonical file are the relocations of the object that is seen.
 use Rattle.std.proofs.Common.{◌≡◌, ℕ, ◌+◌, ◌%◌, ◌<◌, ◌≤◌, Bool, true, false, cond, not, ◌&&◌, eqb, ℤ, List, [], ◌∷◌, length, map, replicate, Option, Some, None, refl, sym, ◌∙◌, ap, subst, inl, inr, arith}
-use Rattle.std.specs.Prelude.{◌+ℤ◌, slice_get, find}
-use Rattle.std.specs.List.{enumerate_from, AllByRecursion}
-use Rattle.std.specs.Option.{option_map, option_map_or, option_and_then}
-use Rattle.std.proofs.lemmas.Bool.{eqb-true, ne_eqb, cases_lt}
-use Rattle.std.proofs.lemmas.Option.{none-some, same_Some, slice_get_past}
-use Rattle.std.proofs.lemmas.List.{length-map}
+use Rattle.std.specs.{Prelude.{◌+ℤ◌, slice_get, find}, List.{enumerate_from, AllByRecursion}, Option.{option_map, option_map_or, option_and_then}}
+use Rattle.std.proofs.lemmas.{Bool.{eqb-true, ne_eqb, cases_lt}, Option.{none-some, same_Some, slice_get_past}, List.{length-map}}
 use Rattle.std.proofs.lemmas.List.FromFn.{length-enumerate_from}
-use Rattle.oc_coff.specs.declared.form.CoffForm.{CoffForm}
-use Rattle.oc_coff.specs.declared.form.CoffForm.TheVariants.{Usual32, Usual64, Big32, Big64}
-use Rattle.oc_base.specs.Formats.{word_for}
-use Rattle.oc_base.specs.Numbers.{number_at}
-use Rattle.oc_linking.specs.declared.terms.Width.{Width}
-use Rattle.oc_linking.specs.declared.terms.Check.{Check}
-use Rattle.oc_linking.specs.declared.terms.Base.{Base}
-use Rattle.oc_linking.specs.declared.terms.Hint.{Hint}
-use Rattle.oc_linking.specs.declared.terms.Patch.{Patch}
-use Rattle.oc_linking.specs.declared.terms.Less.{Less}
-use Rattle.oc_linking.specs.declared.terms.Kind.TheVariants.{Zero}
-use Rattle.oc_linking.specs.Fits.{bytes_of, span}
+use Rattle.oc_coff.specs.{declared.form.CoffForm.{CoffForm}, declared.form.CoffForm.TheVariants.{Usual32, Usual64, Big32, Big64}}
+use Rattle.oc_coff.specs.{declared.relocation.Relocation.{Relocation}, Sections.{carried_in}, Targets.{target_in}, Forms.{coff_format, format_of, word_of}}
+use Rattle.oc_coff.specs.Fields.{relocates, field_by, field_in, fields_in}
+use Rattle.oc_base.specs.{Formats.{word_for}, Numbers.{number_at}}
+use Rattle.oc_linking.specs.{declared.terms.Width.{Width}, declared.terms.Check.{Check}, declared.terms.Base.{Base}, declared.terms.Hint.{Hint}}
+use Rattle.oc_linking.specs.{declared.terms.Patch.{Patch}, declared.terms.Less.{Less}, declared.terms.Kind.TheVariants.{Zero}, Fits.{bytes_of, span}}
 use Rattle.oc_linking.specs.Shows.{Apart}
 use Rattle.oc_linking.specs.Targets as file
 use Rattle.oc_linking.proofs.Storing.{field_holds}
-use Rattle.oc_algebra.specs.Residues.{reduced_number}
-use Rattle.oc_algebra.specs.Fields.{extended, to_field_of, from_field_of}
+use Rattle.oc_algebra.specs.{Residues.{reduced_number}, Fields.{extended, to_field_of, from_field_of}}
 use Rattle.oc_chains.specs.declared.field.Field as chains
 use Rattle.oc_chains.specs.Lists.{list_of}
-use Rattle.oc_neutral.specs.declared.section.Section.{Section}
-use Rattle.oc_neutral.specs.declared.reloc.Reloc.{Reloc}
-use Rattle.oc_neutral.specs.declared.reloc.Target.{Target}
-use Rattle.oc_neutral.specs.Building.{is_zero}
-use Rattle.oc_target.specs.CoffMeets.{CoffReloc}
-use Rattle.oc_neutral.specs.KindRules.{same_kind}
-use Rattle.oc_shows.specs.Manners.{coff_manner}
-use Rattle.oc_target.specs.Meets.{MeetsReloc}
-use Rattle.oc_neutral.specs.Objects.{Object, reloc_at, reloc_among}
-use Rattle.oc_neutral.specs.RelocTables.{rows_of, row_of}
-use Rattle.oc_shows.specs.RowFields.{field_in_place, number_in}
-use Rattle.oc_shows.specs.RowValues.{row_reloc}
-use Rattle.oc_neutral.specs.Rows as rows
+use Rattle.oc_neutral.specs.{declared.section.Section.{Section}, declared.reloc.Reloc.{Reloc}, declared.reloc.Target.{Target}, Building.{is_zero}}
+use Rattle.oc_neutral.specs.{KindRules.{same_kind}, Objects.{Object, reloc_at, reloc_among}, RelocTables.{rows_of, row_of}}
 use Rattle.oc_neutral.specs.Rows.{Row, TakesSection, same_taken, shift_of}
-use Rattle.oc_shows.specs.Seen.{seen_reloc, seen_target}
-use Rattle.oc_neutral.proofs.Mapped.{from_mapped}
-use Rattle.oc_neutral.proofs.Positions.{each_at, there_at}
-use Rattle.oc_neutral.proofs.Standing.{ends_by, wide_in}
-use Rattle.oc_neutral.proofs.Adding.{wide_enough}
+use Rattle.oc_target.specs.{CoffMeets.{CoffReloc}, Meets.{MeetsReloc}}
+use Rattle.oc_shows.specs.{Manners.{coff_manner}, RowFields.{field_in_place, number_in}, RowValues.{row_reloc}, Seen.{seen_reloc, seen_target}}
+use Rattle.oc_neutral.specs.Rows as rows
+use Rattle.oc_neutral.proofs.{Mapped.{from_mapped}, Positions.{each_at, there_at}, Standing.{ends_by, wide_in}, Adding.{wide_enough}}
 use Rattle.oc_shelf.specs.Writing.Parts.{Laid}
 use Rattle.oc_shelf.proofs.WritingLaws.MemberLemmas.{member_map, member_enumerated, all_members}
-use Rattle.oc_coff.specs.declared.relocation.Relocation.{Relocation}
-use Rattle.oc_coff.specs.Sections.{carried_in}
-use Rattle.oc_coff.specs.Targets.{target_in}
-use Rattle.oc_coff.specs.Forms.{coff_format, format_of, word_of}
-use Rattle.oc_coff.specs.Fields.{relocates, field_by, field_in, fields_in}
 use Rattle.oc_coff_file.specs.Lines.{Line, numbered_lines}
 use Rattle.oc_coff_file.specs.Bodies.{number_or, number_by, field_number, field_patch, field_patches, raw_of, target_number, type_of, relocation_of, relocs_of}
-use Rattle.oc_coff_file.proofs.TableLaws.{made_tables}
-use Rattle.oc_coff_file.proofs.CodedLaws.{IsForCoff, coded_section, seen_kind}
-use Rattle.oc_coff_file.proofs.SectionLaws.{made_contents, made_carried}
+use Rattle.oc_coff_file.proofs.{TableLaws.{made_tables}, CodedLaws.{IsForCoff, coded_section, seen_kind}, SectionLaws.{made_contents, made_carried}}
 use Rattle.oc_coff_file.proofs.SeenLaws.{shown}
 use Rattle.oc_shows.proofs.FoundLaws.{empty_past, found_in, less_back, holds_addend}
 

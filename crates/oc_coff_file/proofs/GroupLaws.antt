@@ -1,32 +1,20 @@
 -- The groups of a canonical file are those of its object.
 use Rattle.std.proofs.Common.{◌≡◌, ℕ, zero, suc, ◌+◌, ◌<◌, ◌≤◌, Bool, true, false, cond, ◌&&◌, ◌||◌, List, [], ◌∷◌, ◌++◌, length, map, Option, Some, None, refl, sym, ◌∙◌, ap, subst, arith, append_assoc}
-use Rattle.std.specs.Prelude.{slice_get, nat_eq, nat_le, filter, find, flat_map, bytes_eq}
-use Rattle.std.specs.List.{enumerate_from, list_any}
+use Rattle.std.specs.{Prelude.{slice_get, nat_eq, nat_le, filter, find, flat_map, bytes_eq}, List.{enumerate_from, list_any}}
 use Rattle.std.specs.Option.{option_map_or, option_and_then}
-use Rattle.std.proofs.lemmas.Bool.{true≢false, eqb-true, eq-eqb, ne_eqb, le-leb, and_parts}
-use Rattle.std.proofs.lemmas.Option.{none-some, same_Some, slice_get_within}
-use Rattle.std.proofs.lemmas.Slice.Eq.{bytes_eq-Decides}
-use Rattle.std.proofs.lemmas.Map.Keys.{any_passes_from_place}
-use Rattle.oc_coff.specs.declared.form.CoffForm.{CoffForm}
+use Rattle.std.proofs.lemmas.{Bool.{true≢false, eqb-true, eq-eqb, ne_eqb, le-leb, and_parts}, Option.{none-some, same_Some, slice_get_within}}
+use Rattle.std.proofs.lemmas.{Slice.Eq.{bytes_eq-Decides}, Map.Keys.{any_passes_from_place}}
+use Rattle.oc_coff.specs.{declared.form.CoffForm.{CoffForm}, Entries.{Entry, is_in}, Comdat.{symbols_of}, Values.{numbers_by}}
 use Rattle.oc_linking.specs.declared.terms.Value.TheVariants as value
-use Rattle.oc_linking.specs.declared.terms.Binding.{Binding}
-use Rattle.oc_linking.specs.declared.terms.Binding.TheVariants.{Local, Global, Undefined, Common, Weak}
-use Rattle.oc_neutral.specs.declared.section.Section.{Section}
-use Rattle.oc_neutral.specs.declared.symbol.Symbol.{Symbol}
-use Rattle.oc_neutral.specs.Objects.{Object}
-use Rattle.oc_neutral.specs.Faces.{key_of}
-use Rattle.oc_neutral.specs.KeySymbols.{global_place, group_at, is_key_name, is_key_at, lies_in}
+use Rattle.oc_linking.specs.{declared.terms.Binding.{Binding}, declared.terms.Binding.TheVariants.{Local, Global, Undefined, Common, Weak}}
+use Rattle.oc_neutral.specs.{declared.section.Section.{Section}, declared.symbol.Symbol.{Symbol}, Objects.{Object}, Faces.{key_of}}
+use Rattle.oc_neutral.specs.{KeySymbols.{global_place, group_at, is_key_name, is_key_at, lies_in}, Normal.{Place}}
 use Rattle.oc_target.specs.Meets.{HasKeySymbol}
-use Rattle.oc_neutral.specs.Normal.{Place}
 use Rattle.oc_shelf.specs.Writing.Parts.{laid, laid_end, behind}
 use Rattle.oc_shelf.proofs.WritingLaws.MemberLemmas.{each_map, each_enumerated, member_enumerated, member_map, member_filter}
-use Rattle.oc_coff.specs.Entries.{Entry, is_in}
-use Rattle.oc_coff.specs.Comdat.{symbols_of}
 use Rattle.oc_coff_file.specs.Lines.{Line, SectionLine, OuterLine, placed_symbols, lines_where, section_lines, lines_of, line_size, numbered_lines}
-use Rattle.oc_coff.specs.Values.{numbers_by}
 use Rattle.oc_coff_file.specs.Canonical.{leader_number, leads}
-use Rattle.oc_coff_file.proofs.EntryLaws.{made_entry}
-use Rattle.oc_coff_file.proofs.LineLaws.{each_filter}
+use Rattle.oc_coff_file.proofs.{EntryLaws.{made_entry}, LineLaws.{each_filter}}
 
 and_false : (a : Bool) → (a && false) ≡ false
 and_false true = refl

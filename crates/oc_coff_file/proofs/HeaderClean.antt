@@ -1,24 +1,15 @@
 -- The header of a canonical file is well formed.
 use Rattle.std.proofs.Common.{not, ◌≡◌, ℕ, ◌+◌, ◌*◌, ◌≤◌, true, false, eqb, List, length, refl, ap, arith}
 use Rattle.std.specs.Prelude.{flat_map, nat_lt}
-use Rattle.std.proofs.lemmas.Bool.{ne_eqb, lt-ltb}
-use Rattle.std.proofs.lemmas.Bool.Decides.{nat_tests}
-use Rattle.oc_coff.specs.declared.form.CoffForm.{CoffForm}
-use Rattle.oc_coff.specs.declared.form.Shape.{Shape}
-use Rattle.oc_coff.specs.declared.form.Shape.TheVariants.{Usual, Big}
-use Rattle.oc_coff.specs.Forms.{header_size, shape_of, symbol_size}
-use Rattle.oc_coff.specs.declared.file_header.FileHeader.{FileHeader}
+use Rattle.std.proofs.lemmas.{Bool.{ne_eqb, lt-ltb}, Bool.Decides.{nat_tests}}
+use Rattle.oc_coff.specs.{declared.form.CoffForm.{CoffForm}, declared.form.Shape.{Shape}, declared.form.Shape.TheVariants.{Usual, Big}}
+use Rattle.oc_coff.specs.{Forms.{header_size, shape_of, symbol_size}, declared.file_header.FileHeader.{FileHeader}, SectionHeader.{section_header_bytes}}
+use Rattle.oc_coff.specs.{Flags.{version_of}, HeaderFaults.{foreign_condition, header_conditions}}
 use Rattle.oc_neutral.specs.Objects.{Object}
-use Rattle.oc_coff.specs.SectionHeader.{section_header_bytes}
-use Rattle.oc_shelf.proofs.WritingLaws.StandingLemmas.{stands_inside}
-use Rattle.oc_coff_file.specs.Lines.{entry_count}
-use Rattle.oc_coff_file.specs.Layout.{SectionHeads, text_of}
-use Rattle.oc_coff_file.specs.Canonical.{headers_of, file_header, coff_file, part_bytes}
-use Rattle.oc_coff.specs.Flags.{version_of}
-use Rattle.oc_coff.specs.HeaderFaults.{foreign_condition, header_conditions}
+use Rattle.oc_shelf.proofs.{WritingLaws.StandingLemmas.{stands_inside}, ReadingLaws.StageLemmas.{Unbroken}}
+use Rattle.oc_coff_file.specs.{Lines.{entry_count}, Layout.{SectionHeads, text_of}, Canonical.{headers_of, file_header, coff_file, part_bytes}}
 use Rattle.oc_coff_file.proofs.PartLaws.{part_sized, table_place, table_past, length-coff_file, stands_headers}
 use Rattle.oc_coff_file.proofs.TableLaws.{IsCodable, symbols_counted, place_there, strings_number}
-use Rattle.oc_shelf.proofs.ReadingLaws.StageLemmas.{Unbroken}
 
 -- a range that lies in the file
 pub within_file : (size end : ℕ) → end ≤ size → nat_lt size end ≡ false

@@ -1,33 +1,19 @@
 -- The keys of groups are read in a canonical file.
 use Rattle.std.proofs.Common.{◌≡◌, ℕ, ◌+◌, ◌-◌, ◌<◌, ◌^◌, Bool, true, false, cond, eqb, List, [], length, map, Option, Some, None, refl, sym, ◌∙◌, ap, arith}
-use Rattle.std.specs.Prelude.{slice_get, nat_eq}
-use Rattle.std.specs.List.{enumerate_from}
-use Rattle.std.specs.Option.{option_map, option_map_or, option_and_then, unwrap_or, is_some}
-use Rattle.std.proofs.lemmas.Bool.{ne_eqb}
-use Rattle.std.proofs.lemmas.Option.{same_Some, slice_get_within}
+use Rattle.std.specs.{Prelude.{slice_get, nat_eq}, List.{enumerate_from}, Option.{option_map, option_map_or, option_and_then, unwrap_or, is_some}}
+use Rattle.std.proofs.lemmas.{Bool.{ne_eqb}, Option.{same_Some, slice_get_within}}
 use Rattle.oc_coff.specs.declared.form.CoffForm.{CoffForm}
-use Rattle.oc_linking.specs.Parts.{is_local}
-use Rattle.oc_neutral.specs.declared.section.Section.{Section}
-use Rattle.oc_neutral.specs.declared.symbol.Symbol.{Symbol}
-use Rattle.oc_neutral.specs.Objects.{Object}
-use Rattle.oc_neutral.specs.Faces.{key_of}
-use Rattle.oc_shelf.proofs.WritingLaws.MemberLemmas.{member_map, member_enumerated}
-use Rattle.oc_shelf.proofs.WritingLaws.PackedLemmas.{Fit}
 use Rattle.oc_coff.specs.declared.constants.TheConstants.{IMAGE_COMDAT_SELECT_ANY, IMAGE_COMDAT_SELECT_ASSOCIATIVE, IMAGE_SYM_CLASS_EXTERNAL}
-use Rattle.oc_coff.specs.Tables.{SectionTable}
-use Rattle.oc_coff.specs.Entries.{Entry, entries_in, name_of, is_class}
+use Rattle.oc_coff.specs.{Tables.{SectionTable}, Entries.{Entry, entries_in, name_of, is_class}}
 use Rattle.oc_coff.specs.Comdat.{section_numbered, is_comdat, symbols_of, own_definition, definition_of, definition_in, selects, key_symbol, led_key, key_by, key_in}
-use Rattle.oc_coff_file.specs.Lines.{OuterLine, numbered_lines}
-use Rattle.oc_coff_file.specs.Bodies.{relocs_of}
+use Rattle.oc_coff.specs.{Values.{class_by}, Forms.{shape_of}, SectionAux.{section_aux_numbers}}
+use Rattle.oc_linking.specs.Parts.{is_local}
+use Rattle.oc_neutral.specs.{declared.section.Section.{Section}, declared.symbol.Symbol.{Symbol}, Objects.{Object}, Faces.{key_of}}
+use Rattle.oc_shelf.proofs.{WritingLaws.MemberLemmas.{member_map, member_enumerated}, WritingLaws.PackedLemmas.{Fit}}
+use Rattle.oc_coff_file.specs.{Lines.{OuterLine, numbered_lines}, Bodies.{relocs_of}}
 use Rattle.oc_coff_file.specs.Canonical.{leads, leader_number, selection_of, kept_with, header_at, section_aux, string_table}
-use Rattle.oc_coff.specs.Values.{class_by}
-use Rattle.oc_coff.specs.Forms.{shape_of}
-use Rattle.oc_coff.specs.SectionAux.{section_aux_numbers}
-use Rattle.oc_coff_file.proofs.TableLaws.{made_table, made_tables}
-use Rattle.oc_coff_file.proofs.EntryLaws.{made_entry, section_said}
-use Rattle.oc_coff_file.proofs.NameLaws.{symbol_named}
-use Rattle.oc_coff_file.proofs.CodedLaws.{IsForCoff, coded_section, outer_coded, fewest}
-use Rattle.oc_coff_file.proofs.SectionLaws.{flags_say, AreGrouped}
+use Rattle.oc_coff_file.proofs.{TableLaws.{made_table, made_tables}, EntryLaws.{made_entry, section_said}, NameLaws.{symbol_named}}
+use Rattle.oc_coff_file.proofs.{CodedLaws.{IsForCoff, coded_section, outer_coded, fewest}, SectionLaws.{flags_say, AreGrouped}}
 use Rattle.oc_coff_file.proofs.GroupLaws.{IsKeyOf, leader_of, BeginsWith, first_symbols, IsSecond, second_symbol}
 
 module _ (w : CoffForm) (n : Object) (is : IsForCoff w n) (small : length (string_table w n) < 2 ^ 32)

@@ -1,26 +1,16 @@
 -- The lines of an object: what they are, where they are found, and that they are those by which symbols are seen.
 use Rattle.std.proofs.Common.{◌≡◌, ℕ, zero, suc, ◌+◌, ◌≤◌, Bool, true, false, cond, not, ◌&&◌, List, [], ◌∷◌, ◌++◌, length, map, Option, Some, None, refl, sym, ◌∙◌, ap, subst, inl, inr, arith}
-use Rattle.std.specs.Prelude.{slice_get, nat_eq, filter, filter_map, flat_map}
-use Rattle.std.specs.List.{enumerate_from, cons_option}
-use Rattle.std.specs.Option.{option_map_or}
-use Rattle.std.proofs.lemmas.Bool.{true≢false, eqb-true, eq-eqb, and_parts}
-use Rattle.std.proofs.lemmas.Option.{none-some, same_Some}
-use Rattle.oc_coff.specs.declared.form.CoffForm.{CoffForm}
-use Rattle.oc_linking.specs.declared.terms.Binding.{Binding}
-use Rattle.oc_linking.specs.declared.terms.Binding.TheVariants.{Local, Global, Undefined, Common, Weak}
-use Rattle.oc_linking.specs.Parts.{is_local}
-use Rattle.oc_neutral.specs.declared.section.Section.{Section}
-use Rattle.oc_neutral.specs.declared.symbol.Symbol.{Symbol}
-use Rattle.oc_neutral.specs.Objects.{Object}
-use Rattle.oc_neutral.specs.Normal.{Place}
-use Rattle.oc_neutral.specs.KeySymbols.{global_place, is_key_at}
+use Rattle.std.specs.{Prelude.{slice_get, nat_eq, filter, filter_map, flat_map}, List.{enumerate_from, cons_option}, Option.{option_map_or}}
+use Rattle.std.proofs.lemmas.{Bool.{true≢false, eqb-true, eq-eqb, and_parts}, Option.{none-some, same_Some}}
+use Rattle.oc_coff.specs.{declared.form.CoffForm.{CoffForm}, Forms.{format_of}}
+use Rattle.oc_linking.specs.{declared.terms.Binding.{Binding}, declared.terms.Binding.TheVariants.{Local, Global, Undefined, Common, Weak}, Parts.{is_local}}
+use Rattle.oc_neutral.specs.{declared.section.Section.{Section}, declared.symbol.Symbol.{Symbol}, Objects.{Object}, Normal.{Place}}
+use Rattle.oc_neutral.specs.{KeySymbols.{global_place, is_key_at}, WrittenSymbols.{is_written}}
 use Rattle.oc_shows.specs.SymbolLines.{silent, one, coff_entries, needs_default, is_weak_with, coff_section_lines, coff_lines}
 use Rattle.oc_shows.proofs.SeenFamilies.{coff_table}
-use Rattle.oc_neutral.specs.WrittenSymbols.{is_written}
 use Rattle.oc_shelf.specs.Writing.Parts.{Laid, behind}
 use Rattle.oc_shelf.proofs.WritingLaws.PartLemmas.{IsFound, place_found, laid_part, laid_same}
 use Rattle.oc_shelf.proofs.WritingLaws.MemberLemmas.{member_first, member_second, member_map, member_enumerated, member_flat_map, each_append, each_map, each_flat_map, each_enumerated, of_append, of_map, map-map, map-alike, keyed_once, member_filter}
-use Rattle.oc_coff.specs.Forms.{format_of}
 use Rattle.oc_coff_file.specs.Lines.{Line, SectionLine, LocalLine, DefaultLine, OuterLine, placed_symbols, lines_where, section_lines, is_written_local, is_free, lines_of, line_size, numbered_lines, is_section_line, is_default_line, is_outer_line}
 use Rattle.oc_shows.specs.SymbolLines as table
 

@@ -1,30 +1,19 @@
 -- Names of a canonical file are read back.
 use Rattle.std.proofs.Common.{◌≡◌, ℕ, ◌+◌, ◌-◌, ◌*◌, ◌/◌, ◌%◌, ◌^◌, ◌<◌, ◌≤◌, ◌≢◌, Bool, true, false, cond, eqb, List, [], ◌∷◌, ◌++◌, length, Some, None, refl, sym, ◌∙◌, ap, arith, append-nil, length-append}
-use Rattle.std.specs.Prelude.{nat_eq, nat_le, ◌&&◌, ◌||◌, All, decimal, codes}
-use Rattle.std.specs.List.{list_all}
-use Rattle.std.specs.Option.{unwrap_or}
-use Rattle.std.proofs.lemmas.Bool.{true≢false, eqb-false, ne_eqb, le-leb, or_parts}
-use Rattle.std.proofs.lemmas.List.Folds.{list_all-append, list_any-append}
-use Rattle.std.proofs.lemmas.List.Sums.{fold-append}
-use Rattle.std.proofs.lemmas.List.Elements.{All-cons}
-use Rattle.std.proofs.lemmas.Fmt.{decimal_by_steps, length-decimal-le}
+use Rattle.std.specs.{Prelude.{nat_eq, nat_le, ◌&&◌, ◌||◌, All, decimal, codes}, List.{list_all}, Option.{unwrap_or}}
+use Rattle.std.proofs.lemmas.{Bool.{true≢false, eqb-false, ne_eqb, le-leb, or_parts}, List.Folds.{list_all-append, list_any-append}, List.Sums.{fold-append}}
+use Rattle.std.proofs.lemmas.{List.Elements.{All-cons}, Fmt.{decimal_by_steps, length-decimal-le}}
 use Rattle.oc_coff.specs.declared.form.CoffForm.{CoffForm}
-use Rattle.oc_base.specs.Numbers.{number_at, bytes_of_number}
-use Rattle.oc_base.specs.Strings.{is_given, table_place, table_text}
+use Rattle.oc_coff.specs.{Names.{padded, until_nul, decimal_of, is_nothing, is_digit, name_for, section_name, symbol_name, string_at}, Forms.{format_of}}
+use Rattle.oc_base.specs.{Numbers.{number_at, bytes_of_number}, Strings.{is_given, table_place, table_text}}
 use Rattle.oc_base.proofs.NumberLaws.{length-bytes_of_number, number_at-shift, number_at-bytes}
-use Rattle.oc_neutral.specs.declared.coff.TheConstants.{MOST_NAME_OFFSET}
-use Rattle.oc_neutral.specs.Objects.{Object}
-use Rattle.oc_neutral.specs.KindRules.{begins, has_nul}
+use Rattle.oc_neutral.specs.{declared.coff.TheConstants.{MOST_NAME_OFFSET}, Objects.{Object}, KindRules.{begins, has_nul}}
 use Rattle.oc_neutral.specs.Coff.Strings.{is_long, is_tabled, string_offset}
-use Rattle.oc_coff.specs.Names.{padded, until_nul, decimal_of, is_nothing, is_digit, name_for, section_name, symbol_name, string_at}
 use Rattle.oc_coff_file.proofs.PaddedLemmas.{until_nul-padded, padded-long}
-use Rattle.oc_shelf.proofs.WritingLaws.StandingLemmas.{stands_inside}
-use Rattle.oc_shelf.proofs.WritingLaws.StringLemmas.{name_in_table, name_read}
-use Rattle.oc_coff.specs.Forms.{format_of}
+use Rattle.oc_shelf.proofs.{WritingLaws.StandingLemmas.{stands_inside}, WritingLaws.StringLemmas.{name_in_table, name_read}}
 use Rattle.oc_shelf.specs.Reading.Texts.{text_at}
-use Rattle.oc_coff_file.specs.Layout.{text_of}
+use Rattle.oc_coff_file.specs.{Layout.{text_of}, Canonical.{symbol_field, section_field, string_table}}
 use Rattle.oc_target.specs.CoffMeets.{offset_of, strings_of}
-use Rattle.oc_coff_file.specs.Canonical.{symbol_field, section_field, string_table}
 use Rattle.oc_target.proofs.MeetsConditions.{not_below}
 
 -- a name without NUL

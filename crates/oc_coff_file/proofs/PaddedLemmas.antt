@@ -1,9 +1,7 @@
 -- Padded names read back, and numbers behind names.
 use Rattle.std.proofs.Common.{◌≡◌, ℕ, zero, suc, ◌+◌, ◌<◌, ◌≤◌, ◌≢◌, false, eqb, List, [], ◌∷◌, ◌++◌, length, get_or, take, replicate, refl, ◌∙◌, ap, arith, append_assoc, length-append}
-use Rattle.std.specs.Prelude.{All}
-use Rattle.std.specs.List.{position_or_len}
-use Rattle.std.proofs.lemmas.List.{length-take-le, take_at}
-use Rattle.std.proofs.lemmas.Bool.{ne_eqb}
+use Rattle.std.specs.{Prelude.{All}, List.{position_or_len}}
+use Rattle.std.proofs.lemmas.{List.{length-take-le, take_at}, Bool.{ne_eqb}}
 use Rattle.oc_base.specs.Numbers.{number_at}
 use Rattle.oc_base.proofs.NumberLaws.{number_at-shift}
 use Rattle.oc_shelf.specs.Writing.Packed.{packed}

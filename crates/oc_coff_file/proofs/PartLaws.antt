@@ -1,30 +1,16 @@
 -- The parts of a canonical file: their sizes, and that they stand at their places.
-use Rattle.oc_coff.specs.WeakAux.{weak_aux_bytes}
+use Rattle.oc_coff.specs.{WeakAux.{weak_aux_bytes}, declared.form.Shape.{Shape}, Forms.{format_of, header_size, shape_of, symbol_size}}
+use Rattle.oc_coff.specs.{declared.form.CoffForm.{CoffForm}, Names.{padded}, FileHeader.{file_header_bytes}, SymbolEntry.{symbol_bytes}}
+use Rattle.oc_coff.specs.{SectionAux.{section_aux_bytes}, SectionHeader.{section_header_bytes}, Relocation.{relocation_bytes}, Flags.{with_count}}
 use Rattle.oc_shows.specs.SymbolLines.{is_weak_with}
-use Rattle.oc_coff.specs.declared.form.Shape.{Shape}
-use Rattle.oc_coff.specs.Forms.{format_of, header_size, shape_of, symbol_size}
 use Rattle.std.proofs.Common.{◌≡◌, ℕ, zero, suc, ◌+◌, ◌-◌, ◌*◌, ◌≤◌, Bool, true, false, cond, List, [], ◌∷◌, ◌++◌, length, Some, refl, sym, ◌∙◌, ap, subst, arith, append-nil, length-append}
-use Rattle.std.specs.Prelude.{slice_get, flat_map, decimal}
-use Rattle.std.specs.List.{enumerate_from}
-use Rattle.std.proofs.lemmas.List.{length-map}
-use Rattle.std.proofs.lemmas.List.FromFn.{length-enumerate_from}
-use Rattle.std.proofs.lemmas.Bool.{true≢false, eqb-true, eq-eqb}
-use Rattle.std.proofs.lemmas.Option.{none-some, same_Some}
-use Rattle.oc_coff.specs.declared.form.CoffForm.{CoffForm}
+use Rattle.std.specs.{Prelude.{slice_get, flat_map, decimal}, List.{enumerate_from}}
+use Rattle.std.proofs.lemmas.{List.{length-map}, List.FromFn.{length-enumerate_from}, Bool.{true≢false, eqb-true, eq-eqb}, Option.{none-some, same_Some}}
 use Rattle.oc_base.specs.Numbers.{bytes_of_number}
 use Rattle.oc_base.proofs.NumberLaws.{length-bytes_of_number, length-table}
-use Rattle.oc_linking.specs.declared.terms.Binding.{Binding}
-use Rattle.oc_linking.specs.declared.terms.Binding.TheVariants.{Local, Global, Undefined, Common, Weak}
+use Rattle.oc_linking.specs.{declared.terms.Binding.{Binding}, declared.terms.Binding.TheVariants.{Local, Global, Undefined, Common, Weak}}
 use Rattle.oc_linking.proofs.Overlay.{length-overlay}
-use Rattle.oc_neutral.specs.declared.section.Section.{Section}
-use Rattle.oc_neutral.specs.Objects.{Object}
-use Rattle.oc_neutral.specs.Coff.Strings.{is_long, is_tabled, default_name}
-use Rattle.oc_coff.specs.Names.{padded}
-use Rattle.oc_coff.specs.FileHeader.{file_header_bytes}
-use Rattle.oc_coff.specs.SymbolEntry.{symbol_bytes}
-use Rattle.oc_coff.specs.SectionAux.{section_aux_bytes}
-use Rattle.oc_coff.specs.SectionHeader.{section_header_bytes}
-use Rattle.oc_coff.specs.Relocation.{relocation_bytes}
+use Rattle.oc_neutral.specs.{declared.section.Section.{Section}, Objects.{Object}, Coff.Strings.{is_long, is_tabled, default_name}}
 use Rattle.oc_coff_file.proofs.PaddedLemmas.{length-padded}
 use Rattle.oc_coff_file.proofs.StructureLaws.{length-file_header_bytes, length-section_header_bytes, length-symbol_bytes, length-section_aux_bytes, length-relocation_bytes, length-weak_aux_bytes, header_least}
 use Rattle.oc_shelf.specs.Writing.Parts.{Stands, Laid, laid, laid_end, behind, joined, place_where}
@@ -33,10 +19,9 @@ use Rattle.oc_shelf.proofs.WritingLaws.PartLemmas.{stands_where, place_past, lai
 use Rattle.oc_shelf.proofs.WritingLaws.MemberLemmas.{member_first, member_enumerated, member_flat_map, each_append, each_flat_map, each_map, each_enumerated}
 use Rattle.oc_coff_file.specs.Lines.{Line, SectionLine, LocalLine, DefaultLine, OuterLine, line_size, lines_of, numbered_lines, entry_count}
 use Rattle.oc_coff_file.specs.Bodies.{field_patches, raw_of, relocs_of}
-use Rattle.oc_coff.specs.Flags.{with_count}
 use Rattle.oc_coff_file.specs.Layout.{Part, FileHead, SectionHeads, Raw, Relocs, SymbolTable, StringTable, section_parts, parts_of, text_of, part_size, laid_parts, is_raw, is_relocs, is_symbol_table}
-use Rattle.oc_target.specs.CoffMeets.{offset_of}
 use Rattle.oc_coff_file.specs.Canonical.{symbol_field, section_field, header_at, headers_of, line_entry, section_aux, weak_aux, line_aux, outer_aux, line_rows, entry_rows, file_header, string_table, part_bytes, coff_file}
+use Rattle.oc_target.specs.CoffMeets.{offset_of}
 
 -- names have eight bytes
 pub length-symbol_field : (w : CoffForm) (n : Object) (name : List ℕ) → length (symbol_field w n name) ≡ 8

@@ -1,51 +1,25 @@
 -- The relocation entries of a canonical file break no condition.
 use Rattle.std.proofs.Common.{◌≡◌, ℕ, zero, suc, ◌+◌, ◌≤◌, Bool, true, false, ◌&&◌, ◌||◌, List, [], ◌∷◌, ◌++◌, map, Option, Some, None, refl, sym, ◌∙◌, ap, subst, arith}
-use Rattle.std.specs.Prelude.{slice_get, filter, nat_lt}
-use Rattle.std.specs.List.{AllByRecursion, enumerate_from, list_any}
-use Rattle.std.specs.Option.{option_map_or}
+use Rattle.std.specs.{Prelude.{slice_get, filter, nat_lt}, List.{AllByRecursion, enumerate_from, list_any}, Option.{option_map_or}}
 use Rattle.std.proofs.lemmas.Option.{none-some, same_Some}
-use Rattle.oc_coff.specs.declared.form.CoffForm.{CoffForm}
-use Rattle.oc_linking.specs.declared.terms.Base.TheVariants.{HomeNumber}
-use Rattle.oc_linking.specs.Keeping.{all, keeps}
-use Rattle.oc_linking.specs.Fits.{bytes_of}
-use Rattle.oc_linking.specs.Rules.{Symbolic}
+use Rattle.oc_coff.specs.{declared.form.CoffForm.{CoffForm}, Entries.{entries_in}, Sections.{Carried, carried_in, sections_in}, Targets.{Aim, aim_in}}
+use Rattle.oc_coff.specs.{Forms.{coff_format, word_of}, RelocationFaults.{Judged, judged_from, judged_in, meets_field, relocation_conditions, relocation_stage}}
+use Rattle.oc_linking.specs.{declared.terms.Base.TheVariants.{HomeNumber}, Keeping.{all, keeps}, Fits.{bytes_of}, Rules.{Symbolic}}
 use Rattle.oc_chains.specs.declared.field.Field as chains
-use Rattle.oc_chains.specs.Lists.{list_of}
-use Rattle.oc_chains.specs.Fields.{FollowFrom, end_of}
-use Rattle.oc_neutral.specs.declared.section.Section.{Section}
-use Rattle.oc_neutral.specs.declared.symbol.Symbol.{Symbol}
-use Rattle.oc_neutral.specs.declared.reloc.Reloc.{Reloc}
-use Rattle.oc_neutral.specs.declared.reloc.Target.{Target}
-use Rattle.oc_neutral.specs.declared.reloc.Target.TheVariants as target
-use Rattle.oc_neutral.specs.Objects.{Object, reloc_at}
-use Rattle.oc_neutral.specs.Invariants.{IsHeld, IsThere}
-use Rattle.oc_neutral.specs.Rows.{Row, TakesHome, same_base, same_taken}
-use Rattle.oc_shows.specs.RowFields.{place_target}
-use Rattle.oc_neutral.specs.RelocTables.{row_of}
+use Rattle.oc_chains.specs.{Lists.{list_of}, Fields.{FollowFrom, end_of}}
+use Rattle.oc_neutral.specs.{declared.section.Section.{Section}, declared.symbol.Symbol.{Symbol}, declared.reloc.Reloc.{Reloc}, declared.reloc.Target.{Target}}
+use Rattle.oc_neutral.specs.{Objects.{Object, reloc_at}, Invariants.{IsHeld, IsThere}, Rows.{Row, TakesHome, same_base, same_taken}, RelocTables.{row_of}}
 use Rattle.oc_neutral.specs.TargetRelocations.{is_homeless, needs_home}
-use Rattle.oc_neutral.proofs.Positions.{there_at, each_at}
-use Rattle.oc_neutral.proofs.Adding.{wide_enough}
+use Rattle.oc_neutral.specs.declared.reloc.Target.TheVariants as target
+use Rattle.oc_shows.specs.RowFields.{place_target}
+use Rattle.oc_neutral.proofs.{Positions.{there_at, each_at}, Adding.{wide_enough}}
 use Rattle.oc_shelf.specs.Writing.Parts.{Laid}
-use Rattle.oc_shelf.proofs.WritingLaws.MemberLemmas.{each_flat_map, each_map, each_enumerated, all_members}
-use Rattle.oc_shelf.proofs.ReadingLaws.StageLemmas.{Unbroken, IsUnbroken}
-use Rattle.oc_coff.specs.Entries.{entries_in}
-use Rattle.oc_coff.specs.Sections.{Carried, carried_in, sections_in}
-use Rattle.oc_coff.specs.Targets.{Aim, aim_in}
-use Rattle.oc_coff.specs.Forms.{coff_format, word_of}
-use Rattle.oc_coff.specs.RelocationFaults.{Judged, judged_from, judged_in, meets_field, relocation_conditions, relocation_stage}
+use Rattle.oc_shelf.proofs.{WritingLaws.MemberLemmas.{each_flat_map, each_map, each_enumerated, all_members}, ReadingLaws.StageLemmas.{Unbroken, IsUnbroken}}
 use Rattle.oc_coff.specs.RelocationFaults as faults
-use Rattle.oc_coff_file.specs.Lines.{Line, numbered_lines, outer_number}
-use Rattle.oc_coff_file.specs.Bodies.{type_of, relocation_of, relocs_of, target_number}
-use Rattle.oc_coff_file.proofs.TableLaws.{made_tables}
-use Rattle.oc_coff_file.proofs.CodedLaws.{IsForCoff, coded_section}
-use Rattle.oc_coff_file.proofs.SectionLaws.{made_carried, stored_read}
-use Rattle.oc_coff_file.proofs.SymbolLaws.{S, E}
-use Rattle.oc_coff_file.proofs.TargetLaws.{section_aim, symbol_aim}
-use Rattle.oc_coff_file.proofs.FieldLaws.{coff_reloc, has_bytes, inside, meets, row, row_found, says_something}
-use Rattle.oc_coff_file.proofs.LineLaws.{each_filter}
-use Rattle.oc_coff_file.proofs.CodableLaws.{HasNumbers}
-use Rattle.oc_coff_file.proofs.HeaderClean.{within_file}
-use Rattle.oc_coff_file.proofs.SectionClean.{and_false}
+use Rattle.oc_coff_file.specs.{Lines.{Line, numbered_lines, outer_number}, Bodies.{type_of, relocation_of, relocs_of, target_number}}
+use Rattle.oc_coff_file.proofs.{TableLaws.{made_tables}, CodedLaws.{IsForCoff, coded_section}, SectionLaws.{made_carried, stored_read}, SymbolLaws.{S, E}}
+use Rattle.oc_coff_file.proofs.{TargetLaws.{section_aim, symbol_aim}, FieldLaws.{coff_reloc, has_bytes, inside, meets, row, row_found, says_something}}
+use Rattle.oc_coff_file.proofs.{LineLaws.{each_filter}, CodableLaws.{HasNumbers}, HeaderClean.{within_file}, SectionClean.{and_false}}
 use Rattle.oc_shows.proofs.FoundLaws.{found_in}
 
 -- fields that have ended by a place

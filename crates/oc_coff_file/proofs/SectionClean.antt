@@ -1,54 +1,29 @@
 -- The sections of a canonical file are well formed.
-use Rattle.oc_coff.specs.declared.section_aux.SectionAux.{SectionAux}
-use Rattle.std.proofs.Common.{◌≡◌, ℕ, zero, suc, ◌+◌, ◌*◌, ◌<◌, ◌≤◌, Bool, true, false, cond, not, ◌&&◌, eqb, List, [], ◌∷◌, ◌++◌, length, map, Option, Some, None, refl, sym, ◌∙◌, ap, subst, inl, inr, arith, ◌≢◌, ◌||◌}
-use Rattle.std.specs.Prelude.{◌⊎◌, slice_get, flat_map, nat_lt, min, is_none, nat_le}
-use Rattle.std.specs.List.{enumerate_from, sum_by}
-use Rattle.std.specs.Option.{option_map_or, is_some}
-use Rattle.std.proofs.lemmas.Bool.{true≢false, ne_eqb, ltb-true, le-leb, cases_lt}
-use Rattle.std.proofs.lemmas.List.{length-map}
-use Rattle.std.proofs.lemmas.List.FromFn.{length-enumerate_from}
-use Rattle.std.proofs.lemmas.List.Sums.{sum_by-cons}
-use Rattle.std.proofs.lemmas.Option.{slice_get_within, slice_get_past}
-use Rattle.oc_coff.specs.declared.form.CoffForm.{CoffForm}
-use Rattle.oc_base.specs.Numbers.{number_at}
-use Rattle.oc_linking.specs.declared.terms.Kind.TheVariants.{Zero}
-use Rattle.oc_linking.specs.FirstFault.{Condition}
-use Rattle.oc_neutral.specs.declared.section.Section.{Section}
-use Rattle.oc_neutral.specs.Objects.{Object}
-use Rattle.oc_neutral.specs.KindRules.{has, same_kind}
-use Rattle.oc_neutral.specs.declared.coff.TheConstants.{IMAGE_SCN_LNK_NRELOC_OVFL, IMAGE_SCN_CNT_UNINITIALIZED_DATA}
-use Rattle.oc_coff.specs.declared.section_header.SectionHeader.{SectionHeader}
-use Rattle.oc_coff.specs.declared.relocation.Relocation.{Relocation}
-use Rattle.oc_coff.specs.Relocation.{relocation_bytes, relocation_at}
-use Rattle.oc_coff_file.proofs.StructureLaws.{length-relocation_bytes}
-use Rattle.oc_base.proofs.NumberLaws.{length-table}
-use Rattle.oc_shelf.specs.Writing.Parts.{Stands, place_where}
-use Rattle.oc_shelf.proofs.WritingLaws.StandingLemmas.{stands_inside, stands_front}
-use Rattle.oc_shelf.proofs.WritingLaws.MemberLemmas.{member_enumerated, member_map}
-use Rattle.oc_coff.specs.Tables.{SectionTable, Tables}
-use Rattle.oc_coff.specs.Sections.{is_stored, kind_in, align_bits}
-use Rattle.oc_coff_file.specs.Lines.{numbered_lines}
-use Rattle.oc_coff_file.specs.Bodies.{raw_of, relocs_of}
+use Rattle.oc_coff.specs.{declared.section_aux.SectionAux.{SectionAux}, declared.form.CoffForm.{CoffForm}}
+use Rattle.oc_coff.specs.{declared.section_header.SectionHeader.{SectionHeader}, declared.relocation.Relocation.{Relocation}}
+use Rattle.oc_coff.specs.{Relocation.{relocation_bytes, relocation_at}, Tables.{SectionTable, Tables}, Sections.{is_stored, kind_in, align_bits}}
 use Rattle.oc_coff.specs.Flags.{is_crowded, count_entry, with_count, pointer_to, section_flags}
-use Rattle.oc_coff_file.specs.Layout.{laid_parts, is_raw, is_relocs}
-use Rattle.oc_coff_file.specs.Canonical.{header_at, string_table, coff_file, section_aux, leads}
 use Rattle.oc_coff.specs.SectionFaults.{Numbered, limit_conditions, table_conditions, raw_conditions, section_conditions, section_stage, names_another, follows_follower, copy_conditions, carried_size, carried_bytes, worth_by}
-use Rattle.oc_coff_file.proofs.CodedLaws.{seen_kind, IsForCoff, coded_section}
-use Rattle.oc_coff_file.proofs.PartLaws.{length-raw, raw_past, stands_raw, stands_relocs}
-use Rattle.oc_coff_file.proofs.TableLaws.{made_table, made_tables, relocation_stands}
-use Rattle.oc_coff_file.proofs.SectionLaws.{FlagsSay, flags_say, name_read, kind_read, enumerated_again, sized}
-use Rattle.oc_coff_file.proofs.HeaderClean.{within_file}
+use Rattle.oc_coff.specs.{Entries.{entries_in}, Comdat.{key_symbol, definition_in, selects, is_comdat}, Names.{section_name}}
+use Rattle.std.proofs.Common.{◌≡◌, ℕ, zero, suc, ◌+◌, ◌*◌, ◌<◌, ◌≤◌, Bool, true, false, cond, not, ◌&&◌, eqb, List, [], ◌∷◌, ◌++◌, length, map, Option, Some, None, refl, sym, ◌∙◌, ap, subst, inl, inr, arith, ◌≢◌, ◌||◌}
+use Rattle.std.specs.{Prelude.{◌⊎◌, slice_get, flat_map, nat_lt, min, is_none, nat_le}, List.{enumerate_from, sum_by}, Option.{option_map_or, is_some}}
+use Rattle.std.proofs.lemmas.{Bool.{true≢false, ne_eqb, ltb-true, le-leb, cases_lt}, List.{length-map}, List.FromFn.{length-enumerate_from}}
+use Rattle.std.proofs.lemmas.{List.Sums.{sum_by-cons}, Option.{slice_get_within, slice_get_past}}
+use Rattle.oc_base.specs.Numbers.{number_at}
+use Rattle.oc_linking.specs.{declared.terms.Kind.TheVariants.{Zero}, FirstFault.{Condition}, declared.terms.Kind.{Kind}}
+use Rattle.oc_neutral.specs.{declared.section.Section.{Section}, Objects.{Object}, KindRules.{has, same_kind}}
+use Rattle.oc_neutral.specs.{declared.coff.TheConstants.{IMAGE_SCN_LNK_NRELOC_OVFL, IMAGE_SCN_CNT_UNINITIALIZED_DATA}, Building.{stored_size, is_zero}}
+use Rattle.oc_coff_file.proofs.{StructureLaws.{length-relocation_bytes}, CodedLaws.{seen_kind, IsForCoff, coded_section}}
+use Rattle.oc_coff_file.proofs.{PartLaws.{length-raw, raw_past, stands_raw, stands_relocs}, TableLaws.{made_table, made_tables, relocation_stands}}
+use Rattle.oc_coff_file.proofs.{SectionLaws.{FlagsSay, flags_say, name_read, kind_read, enumerated_again, sized}, HeaderClean.{within_file}}
+use Rattle.oc_coff_file.proofs.{CodableLaws.{HasNumbers}, EntryLaws.{made_entry}}
+use Rattle.oc_coff_file.proofs.{KeyLaws.{leader_selects, member_selects, member_kept, key_symbol_made, definition_some, comdat_header}, GroupLaws.{leader_of}}
+use Rattle.oc_base.proofs.NumberLaws.{length-table}
+use Rattle.oc_shelf.specs.{Writing.Parts.{Stands, place_where}, Reading.Sums.{sum_upto}}
+use Rattle.oc_shelf.proofs.{WritingLaws.StandingLemmas.{stands_inside, stands_front}, WritingLaws.MemberLemmas.{member_enumerated, member_map}}
 use Rattle.oc_shelf.proofs.ReadingLaws.StageLemmas.{Unbroken, unbroken_append, IsUnbroken}
-use Rattle.oc_coff_file.proofs.CodableLaws.{HasNumbers}
-use Rattle.oc_coff.specs.Entries.{entries_in}
-use Rattle.oc_coff_file.proofs.EntryLaws.{made_entry}
-use Rattle.oc_coff_file.proofs.KeyLaws.{leader_selects, member_selects, member_kept, key_symbol_made, definition_some, comdat_header}
-use Rattle.oc_coff.specs.Comdat.{key_symbol, definition_in, selects, is_comdat}
-use Rattle.oc_coff_file.proofs.GroupLaws.{leader_of}
-use Rattle.oc_coff.specs.Names.{section_name}
-use Rattle.oc_shelf.specs.Reading.Sums.{sum_upto}
-use Rattle.oc_neutral.specs.Building.{stored_size, is_zero}
-use Rattle.oc_linking.specs.declared.terms.Kind.{Kind}
+use Rattle.oc_coff_file.specs.{Lines.{numbered_lines}, Bodies.{raw_of, relocs_of}, Layout.{laid_parts, is_raw, is_relocs}}
+use Rattle.oc_coff_file.specs.Canonical.{header_at, string_table, coff_file, section_aux, leads}
 use Rattle.oc_neutral.proofs.Positions.{there_at}
 use Rattle.oc_target.proofs.MeetsConditions.{not_below}
 

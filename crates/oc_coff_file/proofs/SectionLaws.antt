@@ -1,39 +1,23 @@
 -- The sections of a canonical file are those that are seen.
 use Rattle.std.proofs.Common.{◌≡◌, ℕ, suc, ◌+◌, ◌-◌, ◌*◌, ◌/◌, ◌%◌, ◌^◌, ◌<◌, ◌≤◌, Bool, true, false, cond, not, ◌&&◌, eqb, List, [], ◌∷◌, length, map, replicate, Option, Some, None, refl, sym, ◌∙◌, ap, subst, arith}
-use Rattle.std.specs.Prelude.{slice_get, nat_eq, filter_map}
-use Rattle.std.specs.List.{enumerate_from, cons_option}
+use Rattle.std.specs.{Prelude.{slice_get, nat_eq, filter_map}, List.{enumerate_from, cons_option}}
 use Rattle.std.specs.Option.{unwrap_or, option_map, option_map_or, option_and_then, is_some}
 use Rattle.std.proofs.lemmas.Bool.{true≢false, eqb-true, eq-eqb, ne_eqb}
-use Rattle.oc_coff.specs.declared.form.CoffForm.{CoffForm}
-use Rattle.oc_linking.specs.declared.terms.Kind.{Kind}
-use Rattle.oc_linking.specs.declared.terms.Kind.TheVariants.{Zero}
-use Rattle.oc_linking.specs.Numbers.{first_from}
+use Rattle.oc_coff.specs.{declared.form.CoffForm.{CoffForm}, declared.section_header.SectionHeader.{SectionHeader}, declared.relocation.Relocation.{Relocation}}
+use Rattle.oc_coff.specs.{Names.{section_name}, Tables.{relocs_place}}
+use Rattle.oc_coff.specs.Sections.{align_of, kind_in, is_stored, Carried, carried_of, carried_in, sections_in, align_bits}
+use Rattle.oc_coff.specs.{Flags.{is_crowded, align_field, section_flags}, Comdat.{key_in}}
+use Rattle.oc_linking.specs.{declared.terms.Kind.{Kind}, declared.terms.Kind.TheVariants.{Zero}, Numbers.{first_from}}
 use Rattle.oc_linking.proofs.Searching.{first_from_found, first_from_none}
-use Rattle.oc_neutral.specs.declared.section.Section.{Section}
-use Rattle.oc_neutral.specs.Objects.{Object}
-use Rattle.oc_neutral.specs.KindRules.{has, same_kind}
-use Rattle.oc_neutral.specs.Coff.Kinds.{coff_kind, coff_tag}
+use Rattle.oc_neutral.specs.{declared.section.Section.{Section}, Objects.{Object}, KindRules.{has, same_kind}, Coff.Kinds.{coff_kind, coff_tag}}
 use Rattle.oc_neutral.specs.declared.coff.TheConstants.{IMAGE_SCN_LNK_NRELOC_OVFL, IMAGE_SCN_LNK_COMDAT, IMAGE_SCN_CNT_UNINITIALIZED_DATA, IMAGE_SCN_ALIGN_1BYTES}
+use Rattle.oc_neutral.specs.Faces.{key_of}
 use Rattle.oc_neutral.proofs.GivenLaws.{coff_kind-tag}
-use Rattle.oc_coff.specs.declared.section_header.SectionHeader.{SectionHeader}
-use Rattle.oc_coff.specs.declared.relocation.Relocation.{Relocation}
 use Rattle.oc_shelf.specs.Writing.Parts.{place_where}
 use Rattle.oc_shelf.proofs.WritingLaws.MemberLemmas.{map-map, filter_map-map, each_enumerated}
-use Rattle.oc_coff.specs.Names.{section_name}
-use Rattle.oc_coff.specs.Tables.{relocs_place}
-use Rattle.oc_coff.specs.Sections.{align_of, kind_in, is_stored, Carried, carried_of, carried_in, sections_in, align_bits}
-use Rattle.oc_coff_file.specs.Lines.{numbered_lines}
-use Rattle.oc_coff_file.specs.Bodies.{raw_of, relocs_of}
-use Rattle.oc_coff.specs.Flags.{is_crowded, align_field, section_flags}
-use Rattle.oc_coff_file.specs.Layout.{laid_parts, is_raw}
-use Rattle.oc_coff_file.specs.Canonical.{header_at, string_table}
-use Rattle.oc_coff_file.proofs.CodedLaws.{seen_kind, IsCodedSection}
-use Rattle.oc_coff_file.proofs.PartLaws.{raw_past, length-raw}
-use Rattle.oc_coff_file.proofs.TableLaws.{made_table, made_tables}
-use Rattle.oc_coff_file.proofs.NameLaws.{section_named}
-use Rattle.oc_coff_file.proofs.FlagLaws.{IsFlags, flags_align, flags_overflow, flags_zeros, flags_tag, flags_small, flags_copies}
-use Rattle.oc_neutral.specs.Faces.{key_of}
-use Rattle.oc_coff.specs.Comdat.{key_in}
+use Rattle.oc_coff_file.specs.{Lines.{numbered_lines}, Bodies.{raw_of, relocs_of}, Layout.{laid_parts, is_raw}, Canonical.{header_at, string_table}}
+use Rattle.oc_coff_file.proofs.{CodedLaws.{seen_kind, IsCodedSection}, PartLaws.{raw_past, length-raw}, TableLaws.{made_table, made_tables}}
+use Rattle.oc_coff_file.proofs.{NameLaws.{section_named}, FlagLaws.{IsFlags, flags_align, flags_overflow, flags_zeros, flags_tag, flags_small, flags_copies}}
 use Rattle.oc_linking.specs.Parts as parts
 
 -- the exponent of an alignment

@@ -1,23 +1,16 @@
 -- The symbols that are seen of an object, by the lines of its file.
 use Rattle.std.proofs.Common.{◌≡◌, ℕ, false, List, Option, Some, None, refl, sym, ◌∙◌, ap}
-use Rattle.std.specs.Prelude.{slice_get, filter_map}
-use Rattle.std.specs.Option.{option_map, option_and_then}
+use Rattle.std.specs.{Prelude.{slice_get, filter_map}, Option.{option_map, option_and_then}}
 use Rattle.oc_base.specs.Formats.{word_for}
 use Rattle.oc_linking.specs.Parts.{is_local}
-use Rattle.oc_neutral.specs.declared.symbol.Symbol.{Symbol}
-use Rattle.oc_neutral.specs.Objects.{Object}
-use Rattle.oc_neutral.specs.Families.{container_of}
-use Rattle.oc_shows.specs.Manners.{coff_manner, manner_of, own_manner}
-use Rattle.oc_shows.specs.Seen.{shown_from, new_position, seen_symbol, seen_symbols, seen_with, seen}
+use Rattle.oc_neutral.specs.{declared.symbol.Symbol.{Symbol}, Objects.{Object}, Families.{container_of}}
+use Rattle.oc_shows.specs.{Manners.{coff_manner, manner_of, own_manner}, Seen.{shown_from, new_position, seen_symbol, seen_symbols, seen_with, seen}}
 use Rattle.oc_shows.specs.SymbolLines.{coff_lines}
-use Rattle.oc_shows.proofs.SeenFamilies.{coff_table}
-use Rattle.oc_shows.proofs.SeenLines.{IsShown, table_shows}
+use Rattle.oc_shows.proofs.{SeenFamilies.{coff_table}, SeenLines.{IsShown, table_shows}}
 use Rattle.oc_shelf.specs.Writing.Parts.{Laid}
 use Rattle.oc_made_files.proofs.MadeLaws as made
 use Rattle.oc_made_files.proofs.ShownLines as by_lines
-use Rattle.oc_coff.specs.declared.form.CoffForm.{CoffForm}
-use Rattle.oc_coff.specs.declared.form.CoffForm.TheVariants.{Usual32, Usual64, Big32, Big64}
-use Rattle.oc_coff.specs.Forms.{format_of}
+use Rattle.oc_coff.specs.{declared.form.CoffForm.{CoffForm}, declared.form.CoffForm.TheVariants.{Usual32, Usual64, Big32, Big64}, Forms.{format_of}}
 use Rattle.oc_coff_file.specs.Lines.{Line, SectionLine, LocalLine, DefaultLine, OuterLine, lines_of, line_size, numbered_lines, outer_number}
 use Rattle.oc_coff_file.proofs.LineLaws.{IsLineOf, counted_line, lines_counted, line_is_of, outer_found}
 

@@ -1,52 +1,26 @@
 -- The canonical file of an object that is ready for COFF shows the object that is seen.
 use Rattle.std.proofs.Common.{◌≡◌, ℕ, ◌+◌, List, Option, Some, false, refl, sym, ◌∙◌, ap, map, arith}
-use Rattle.std.specs.Prelude.{slice_get}
-use Rattle.std.specs.List.{enumerate_from}
-use Rattle.std.specs.Option.{option_map, option_and_then}
+use Rattle.std.specs.{Prelude.{slice_get}, List.{enumerate_from}, Option.{option_map, option_and_then}}
 use Rattle.oc_base.specs.Formats.{word_for}
-use Rattle.oc_linking.specs.Keeping.{all}
-use Rattle.oc_linking.specs.Parts.{is_local}
+use Rattle.oc_linking.specs.{Keeping.{all}, Parts.{is_local}, declared.terms.Kind.TheVariants.{Zero}}
 use Rattle.oc_linking.specs.Targets as linked
-use Rattle.oc_linking.specs.declared.terms.Kind.TheVariants.{Zero}
-use Rattle.oc_neutral.specs.declared.section.Section.{Section}
-use Rattle.oc_neutral.specs.declared.symbol.Symbol.{Symbol}
-use Rattle.oc_neutral.specs.declared.reloc.Reloc.{Reloc}
-use Rattle.oc_neutral.specs.declared.reloc.Target.{Target}
+use Rattle.oc_neutral.specs.{declared.section.Section.{Section}, declared.symbol.Symbol.{Symbol}, declared.reloc.Reloc.{Reloc}, declared.reloc.Target.{Target}}
+use Rattle.oc_neutral.specs.{Objects.{Object, reloc_at}, Faces.{shown_symbols, frame_of}, KindRules.{same_kind}}
 use Rattle.oc_neutral.specs.declared.reloc.Target.TheVariants as target
-use Rattle.oc_neutral.specs.Objects.{Object, reloc_at}
-use Rattle.oc_shows.specs.Again.{HasContents}
-use Rattle.oc_neutral.specs.Faces.{shown_symbols, frame_of}
+use Rattle.oc_shows.specs.{Again.{HasContents}, Manners.{coff_manner}, RowFields.{number_in, place_target, IsTarget}}
+use Rattle.oc_shows.specs.{Seen.{seen, seen_section, seen_target, new_position}, Shows.{Shows}}
 use Rattle.oc_target.specs.Fitted.{IsFitted}
-use Rattle.oc_neutral.specs.KindRules.{same_kind}
-use Rattle.oc_shows.specs.Manners.{coff_manner}
-use Rattle.oc_shows.specs.RowFields.{number_in, place_target, IsTarget}
-use Rattle.oc_shows.specs.Seen.{seen, seen_section, seen_target, new_position}
-use Rattle.oc_shows.specs.Shows.{Shows}
 use Rattle.oc_made_files.specs.MadeFiles.{IsMadeField, IsMadeFile}
 use Rattle.oc_made_files.proofs.MadeLaws.{numbered_target, patched_beside, contents_by_kind, outer_aimed, target_said, made_by_row, made_file_shows}
-use Rattle.oc_coff.specs.declared.form.CoffForm.{CoffForm}
-use Rattle.oc_coff.specs.declared.form.CoffForm.TheVariants.{Usual32, Usual64, Big32, Big64}
-use Rattle.oc_coff.specs.Tables.{tables_of}
-use Rattle.oc_coff.specs.Entries.{entries_in}
-use Rattle.oc_coff.specs.Sections.{carried_in, sections_in}
-use Rattle.oc_coff.specs.Symbols.{symbols_in}
-use Rattle.oc_coff.specs.Targets.{Aim, target_in}
-use Rattle.oc_coff.specs.Forms.{format_of, shape_of, word_of}
-use Rattle.oc_coff.specs.Fields.{fields_in}
-use Rattle.oc_coff.specs.Rules.{coff_dialect}
-use Rattle.oc_coff_file.specs.Lines.{numbered_lines, outer_number}
-use Rattle.oc_coff_file.specs.Bodies.{field_patch, raw_of, target_number}
-use Rattle.oc_coff_file.specs.Canonical.{coff_file}
-use Rattle.oc_coff_file.proofs.PartLaws.{length-raw}
-use Rattle.oc_coff_file.proofs.TableLaws.{made_tables, tables_read}
-use Rattle.oc_coff_file.proofs.EntryLaws.{entries_made}
+use Rattle.oc_coff.specs.{declared.form.CoffForm.{CoffForm}, declared.form.CoffForm.TheVariants.{Usual32, Usual64, Big32, Big64}, Tables.{tables_of}}
+use Rattle.oc_coff.specs.{Entries.{entries_in}, Sections.{carried_in, sections_in}, Symbols.{symbols_in}, Targets.{Aim, target_in}}
+use Rattle.oc_coff.specs.{Forms.{format_of, shape_of, word_of}, Fields.{fields_in}, Rules.{coff_dialect}}
+use Rattle.oc_coff_file.specs.{Lines.{numbered_lines, outer_number}, Bodies.{field_patch, raw_of, target_number}, Canonical.{coff_file}}
+use Rattle.oc_coff_file.proofs.{PartLaws.{length-raw}, TableLaws.{made_tables, tables_read}, EntryLaws.{entries_made}}
 use Rattle.oc_coff_file.proofs.CodedLaws.{IsForCoff, seen_kind, coded_section, zero_kind}
-use Rattle.oc_coff_file.proofs.SectionLaws.{made_contents, made_section, made_carried, carried_made, sections_made}
-use Rattle.oc_coff_file.proofs.KeyLaws.{grouped}
-use Rattle.oc_coff_file.proofs.SeenLaws.{shown, again, manner_is, are_shown, seen_there}
-use Rattle.oc_coff_file.proofs.SymbolLaws.{S, E, symbols_read}
-use Rattle.oc_coff_file.proofs.TargetLaws.{section_aim, symbol_aim}
-use Rattle.oc_coff_file.proofs.FieldLaws.{meets, row, reloc_made, field_made, no_field, fields_there, fields_past}
+use Rattle.oc_coff_file.proofs.{SectionLaws.{made_contents, made_section, made_carried, carried_made, sections_made}, KeyLaws.{grouped}}
+use Rattle.oc_coff_file.proofs.{SeenLaws.{shown, again, manner_is, are_shown, seen_there}, SymbolLaws.{S, E, symbols_read}}
+use Rattle.oc_coff_file.proofs.{TargetLaws.{section_aim, symbol_aim}, FieldLaws.{meets, row, reloc_made, field_made, no_field, fields_there, fields_past}}
 use Rattle.oc_coff_file.proofs.CodableLaws.{HasNumbers}
 
 module _ (w : CoffForm) (n : Object) (is : IsForCoff w n) (has : HasNumbers w n) where

@@ -1,31 +1,21 @@
 -- The sizes of a canonical file are numbers of 32 bits.
-use Rattle.oc_coff_file.proofs.StructureLaws.{header_most, symbols_most}
+use Rattle.oc_coff_file.proofs.{StructureLaws.{header_most, symbols_most}, CodedLaws.{IsForCoff, fewest}, LineLaws.{counted_line, lines_counted}}
+use Rattle.oc_coff_file.proofs.PartLaws.{length-coff_file, table_place, front_parts}
 use Rattle.std.proofs.Common.{◌≡◌, ℕ, suc, ◌+◌, ◌*◌, ◌^◌, ◌<◌, ◌≤◌, Bool, true, false, cond, List, [], ◌∷◌, length, map, get_or, refl, sym, ◌∙◌, ap, arith}
-use Rattle.std.specs.Prelude.{flat_map}
-use Rattle.std.specs.List.{sum_by, enumerate_from, AllByRecursion}
-use Rattle.std.proofs.lemmas.List.Sums.{sum_by-cons}
-use Rattle.std.proofs.lemmas.List.{length-map}
-use Rattle.oc_coff.specs.declared.form.CoffForm.{CoffForm}
+use Rattle.std.specs.{Prelude.{flat_map}, List.{sum_by, enumerate_from, AllByRecursion}}
+use Rattle.std.proofs.lemmas.{List.Sums.{sum_by-cons}, List.{length-map}}
+use Rattle.oc_coff.specs.{declared.form.CoffForm.{CoffForm}, declared.relocation.Relocation.{Relocation}, Forms.{format_of, shape_of}}
+use Rattle.oc_coff.specs.Flags.{is_crowded, count_entry}
 use Rattle.oc_chains.specs.Lists.{list_of}
-use Rattle.oc_neutral.specs.declared.reloc.Reloc.{Reloc}
-use Rattle.oc_neutral.specs.declared.section.Section.{Section}
-use Rattle.oc_neutral.specs.Objects.{Object}
-use Rattle.oc_neutral.specs.Building.{stored_size, stored_sum}
+use Rattle.oc_neutral.specs.{declared.reloc.Reloc.{Reloc}, declared.section.Section.{Section}, Objects.{Object}, Building.{stored_size, stored_sum}}
 use Rattle.oc_neutral.specs.Invariants.{HasItsBytes}
 use Rattle.oc_target.specs.CoffMeets.{strings_of}
 use Rattle.oc_shows.specs.SymbolLines.{coff_lines}
 use Rattle.oc_shows.proofs.SeenFamilies.{coff_table}
 use Rattle.oc_shelf.specs.Writing.Parts.{laid_end, behind}
-use Rattle.oc_coff.specs.declared.relocation.Relocation.{Relocation}
-use Rattle.oc_coff.specs.Forms.{format_of, shape_of}
 use Rattle.oc_coff_file.specs.Lines.{Line, SectionLine, LocalLine, DefaultLine, OuterLine, lines_of, line_size, numbered_lines, entry_count}
-use Rattle.oc_coff.specs.Flags.{is_crowded, count_entry}
-use Rattle.oc_coff_file.specs.Bodies.{relocs_of}
-use Rattle.oc_coff_file.specs.Layout.{Part, FileHead, SectionHeads, Raw, Relocs, section_parts, text_of, reloc_entries, part_size}
+use Rattle.oc_coff_file.specs.{Bodies.{relocs_of}, Layout.{Part, FileHead, SectionHeads, Raw, Relocs, section_parts, text_of, reloc_entries, part_size}}
 use Rattle.oc_coff_file.specs.Canonical.{coff_file}
-use Rattle.oc_coff_file.proofs.CodedLaws.{IsForCoff, fewest}
-use Rattle.oc_coff_file.proofs.LineLaws.{counted_line, lines_counted}
-use Rattle.oc_coff_file.proofs.PartLaws.{length-coff_file, table_place, front_parts}
 use Rattle.oc_chains.specs.declared.field.Field as chains
 use Rattle.oc_shows.specs.SymbolLines as table
 use Rattle.oc_shows.proofs.SeenTables as counts

@@ -2,20 +2,12 @@
 use Rattle.std.proofs.Common.{◌≡◌, ℕ, ◌+◌, ◌*◌, ◌%◌, ◌<◌, ◌≤◌, ◌^◌, cond, List, [], ◌∷◌, ◌++◌, length, take, drop, refl, sym, ◌∙◌, ap, arith}
 use Rattle.std.proofs.Math.Seq.{drop-append-add}
 use Rattle.oc_base.proofs.NumberLaws.{number_at-shift}
-use Rattle.oc_coff.specs.declared.file_header.FileHeader.{FileHeader}
-use Rattle.oc_coff.specs.declared.section_header.SectionHeader.{SectionHeader}
-use Rattle.oc_coff.specs.declared.symbol.SymbolEntry.{SymbolEntry}
-use Rattle.oc_coff.specs.declared.section_aux.SectionAux.{SectionAux}
-use Rattle.oc_coff.specs.declared.weak_aux.WeakAux.{WeakAux}
-use Rattle.oc_coff.specs.declared.relocation.Relocation.{Relocation}
-use Rattle.oc_coff.specs.declared.form.Shape.{Shape}
-use Rattle.oc_coff.specs.declared.form.Shape.TheVariants.{Usual, Big}
-use Rattle.oc_coff.specs.Forms.{header_size, symbol_size}
-use Rattle.oc_coff.specs.FileHeader.{file_header_of, file_header_bytes, file_header_numbers}
-use Rattle.oc_coff.specs.SectionHeader.{section_header_at, section_header_bytes}
-use Rattle.oc_coff.specs.SymbolEntry.{symbol_at, symbol_bytes, symbol_numbers, signed_number}
-use Rattle.oc_coff.specs.SectionAux.{section_aux_at, section_aux_bytes, section_aux_numbers}
-use Rattle.oc_coff.specs.WeakAux.{weak_aux_at, weak_aux_bytes, weak_aux_numbers}
+use Rattle.oc_coff.specs.{declared.file_header.FileHeader.{FileHeader}, declared.section_header.SectionHeader.{SectionHeader}}
+use Rattle.oc_coff.specs.{declared.symbol.SymbolEntry.{SymbolEntry}, declared.section_aux.SectionAux.{SectionAux}, declared.weak_aux.WeakAux.{WeakAux}}
+use Rattle.oc_coff.specs.{declared.relocation.Relocation.{Relocation}, declared.form.Shape.{Shape}, declared.form.Shape.TheVariants.{Usual, Big}}
+use Rattle.oc_coff.specs.{Forms.{header_size, symbol_size}, FileHeader.{file_header_of, file_header_bytes, file_header_numbers}}
+use Rattle.oc_coff.specs.{SectionHeader.{section_header_at, section_header_bytes}, SymbolEntry.{symbol_at, symbol_bytes, symbol_numbers, signed_number}}
+use Rattle.oc_coff.specs.{SectionAux.{section_aux_at, section_aux_bytes, section_aux_numbers}, WeakAux.{weak_aux_at, weak_aux_bytes, weak_aux_numbers}}
 use Rattle.oc_coff.specs.Relocation.{relocation_at, relocation_bytes}
 use Rattle.std.proofs.lemmas.Bool.{lt-ltb}
 use Rattle.oc_shelf.proofs.WritingLaws.PackedLemmas.{Fit, length-packed, number_at-packed}

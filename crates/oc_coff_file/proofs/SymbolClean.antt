@@ -1,54 +1,30 @@
 -- The symbols of a canonical file are well formed.
-use Rattle.oc_coff.specs.Forms.{shape_of}
-use Rattle.std.proofs.Common.{◌≡◌, ℕ, zero, suc, ◌+◌, ◌<◌, ◌≤◌, Bool, true, false, cond, not, ◌&&◌, ◌||◌, eqb, List, [], ◌∷◌, ◌++◌, length, take, Option, Some, None, refl, sym, ◌∙◌, ap, subst, inl, inr, arith, option_and_then}
-use Rattle.std.specs.Prelude.{slice_get, nat_lt, is_none, codes}
-use Rattle.std.specs.List.{enumerate_from, list_any}
-use Rattle.std.specs.Option.{option_map_or, unwrap_or}
-use Rattle.std.proofs.lemmas.Bool.{true≢false, ne_eqb, le-leb, cases_lt, false_from_ne_true, and_parts}
-use Rattle.std.proofs.lemmas.Slice.Eq.{bytes_eq-Decides}
-use Rattle.std.proofs.lemmas.List.{length-map}
-use Rattle.std.proofs.lemmas.List.FromFn.{length-enumerate_from}
-use Rattle.std.proofs.lemmas.Option.{none-some, slice_get_within}
-use Rattle.oc_coff.specs.declared.form.CoffForm.{CoffForm}
-use Rattle.oc_linking.specs.declared.terms.Value.{Value}
-use Rattle.oc_linking.specs.declared.terms.Fallback.{Fallback}
-use Rattle.oc_linking.specs.declared.terms.Binding.{Binding}
-use Rattle.oc_linking.specs.declared.terms.Binding.TheVariants.{Local, Global, Undefined, Common, Weak}
-use Rattle.oc_linking.specs.Parts.{is_local}
-use Rattle.oc_linking.specs.FirstFault.{Condition}
-use Rattle.oc_neutral.specs.declared.section.Section.{Section}
-use Rattle.oc_neutral.specs.declared.symbol.Symbol.{Symbol}
-use Rattle.oc_neutral.specs.Objects.{Object}
-use Rattle.oc_neutral.specs.Coff.Strings.{default_name, has_default, is_long, is_tabled}
-use Rattle.oc_coff.specs.declared.symbol.SymbolEntry.{SymbolEntry}
-use Rattle.oc_shelf.specs.Writing.Parts.{Laid}
-use Rattle.oc_shelf.proofs.WritingLaws.PartLemmas.{laid_within}
-use Rattle.oc_shelf.proofs.WritingLaws.MemberLemmas.{of_map, member_map, none_passes}
-use Rattle.oc_coff.specs.Tables.{SectionTable, Slot}
-use Rattle.oc_coff.specs.Names.{is_nothing, symbol_name}
-use Rattle.oc_coff.specs.Sections.{position_of, sections_in}
-use Rattle.oc_coff.specs.Entries.{Entry, entry_numbered, has_section, is_class, entries_in, name_of}
-use Rattle.oc_coff.specs.Symbols.{tagged_by}
+use Rattle.oc_coff.specs.{Forms.{shape_of}, declared.form.CoffForm.{CoffForm}, declared.symbol.SymbolEntry.{SymbolEntry}, Tables.{SectionTable, Slot}}
+use Rattle.oc_coff.specs.{Names.{is_nothing, symbol_name}, Sections.{position_of, sections_in}}
+use Rattle.oc_coff.specs.{Entries.{Entry, entry_numbered, has_section, is_class, entries_in, name_of}, Symbols.{tagged_by}}
 use Rattle.oc_coff.specs.SymbolFaults.{is_no_section, is_known, is_static, is_external, is_uncarried, can_be_tagged, tag_conditions, is_named, name_conditions, symbol_conditions, symbol_stage, is_past_end, is_undefined}
+use Rattle.oc_coff.specs.Values.{numbers_of, numbers_by, default_numbers, type_by, class_by, aux_by}
+use Rattle.std.proofs.Common.{◌≡◌, ℕ, zero, suc, ◌+◌, ◌<◌, ◌≤◌, Bool, true, false, cond, not, ◌&&◌, ◌||◌, eqb, List, [], ◌∷◌, ◌++◌, length, take, Option, Some, None, refl, sym, ◌∙◌, ap, subst, inl, inr, arith, option_and_then}
+use Rattle.std.specs.{Prelude.{slice_get, nat_lt, is_none, codes}, List.{enumerate_from, list_any}, Option.{option_map_or, unwrap_or}}
+use Rattle.std.proofs.lemmas.{Bool.{true≢false, ne_eqb, le-leb, cases_lt, false_from_ne_true, and_parts}, Slice.Eq.{bytes_eq-Decides}, List.{length-map}}
+use Rattle.std.proofs.lemmas.{List.FromFn.{length-enumerate_from}, Option.{none-some, slice_get_within}, List.Folds.{list_any-append}}
+use Rattle.oc_linking.specs.{declared.terms.Value.{Value}, declared.terms.Fallback.{Fallback}, declared.terms.Binding.{Binding}}
+use Rattle.oc_linking.specs.{declared.terms.Binding.TheVariants.{Local, Global, Undefined, Common, Weak}, Parts.{is_local}, FirstFault.{Condition}}
+use Rattle.oc_neutral.specs.{declared.section.Section.{Section}, declared.symbol.Symbol.{Symbol}, Objects.{Object}}
+use Rattle.oc_neutral.specs.{Coff.Strings.{default_name, has_default, is_long, is_tabled}, KindRules.{has_nul, begins}}
+use Rattle.oc_shelf.specs.Writing.Parts.{Laid}
+use Rattle.oc_shelf.proofs.{WritingLaws.PartLemmas.{laid_within}, WritingLaws.MemberLemmas.{of_map, member_map, none_passes}}
+use Rattle.oc_shelf.proofs.ReadingLaws.StageLemmas.{Unbroken, unbroken_append, IsUnbroken}
 use Rattle.oc_coff_file.specs.Lines.{Line, SectionLine, LocalLine, DefaultLine, OuterLine, line_size, lines_of, numbered_lines, entry_count, is_default_line, is_outer_line}
 use Rattle.oc_coff_file.specs.Canonical.{header_at, entry, tag_of, line_entry, symbol_field, string_table, entry_rows}
-use Rattle.oc_coff.specs.Values.{numbers_of, numbers_by, default_numbers, type_by, class_by, aux_by}
-use Rattle.oc_coff_file.proofs.PartLaws.{length-entry_rows}
-use Rattle.oc_coff_file.proofs.TableLaws.{made_table, made_tables, read_row}
+use Rattle.oc_coff_file.proofs.{PartLaws.{length-entry_rows}, TableLaws.{made_table, made_tables, read_row}}
 use Rattle.oc_coff_file.proofs.EntryLaws.{made_entry, outer_slot, line_slot, aux_count, sized_aux}
 use Rattle.oc_coff_file.proofs.LineLaws.{IsLineOf, numbered_is_of, default_found, outer_found, one_outer, numbered_line}
 use Rattle.oc_coff_file.proofs.CodedLaws.{IsCodedValue, IsCodedFallback, IsCodedBinding, IsCodedSymbol, IsCodedLine, IsForCoff, outer_coded, fewest}
-use Rattle.oc_coff_file.proofs.SymbolLaws.{S, E, position_made, entry_where, numbered_coded, tag_read}
-use Rattle.oc_coff_file.proofs.NameLaws.{symbol_named}
-use Rattle.oc_coff_file.proofs.SectionClean.{and_false}
+use Rattle.oc_coff_file.proofs.{SymbolLaws.{S, E, position_made, entry_where, numbered_coded, tag_read}, NameLaws.{symbol_named}, SectionClean.{and_false}}
+use Rattle.oc_coff_file.proofs.{HeaderClean.{within_file}, CodableLaws.{HasNumbers}, KeyLaws.{numbered_section}}
 use Rattle.oc_neutral.proofs.Positions.{there_at}
-use Rattle.oc_coff_file.proofs.HeaderClean.{within_file}
-use Rattle.oc_shelf.proofs.ReadingLaws.StageLemmas.{Unbroken, unbroken_append, IsUnbroken}
-use Rattle.oc_coff_file.proofs.CodableLaws.{HasNumbers}
-use Rattle.oc_coff_file.proofs.KeyLaws.{numbered_section}
 use Rattle.oc_shows.specs.SymbolLines.{is_weak_with}
-use Rattle.oc_neutral.specs.KindRules.{has_nul, begins}
-use Rattle.std.proofs.lemmas.List.Folds.{list_any-append}
 use Rattle.oc_linking.specs.declared.terms.Value.TheVariants as value
 use Rattle.oc_linking.specs.declared.terms.Fallback.TheVariants as fallback
 

@@ -1,51 +1,28 @@
 -- The symbols of a canonical file are those that are seen.
-use Rattle.oc_coff.specs.declared.weak_aux.WeakAux.{WeakAux}
+use Rattle.oc_coff.specs.{declared.weak_aux.WeakAux.{WeakAux}, declared.form.CoffForm.{CoffForm}, declared.symbol.SymbolEntry.{SymbolEntry}}
+use Rattle.oc_coff.specs.{Names.{is_nothing, symbol_name}, Tables.{Slot}, Sections.{sections_in, position_from, position_of}}
+use Rattle.oc_coff.specs.Entries.{Entry, entry_numbered, has_section, entries_in}
+use Rattle.oc_coff.specs.Symbols.{tags, is_tagged, is_section_symbol, value_of, fallback_at, fallback_by, binding_of, symbol_with, symbol_of, symbols_in}
+use Rattle.oc_coff.specs.{Values.{numbers_of, numbers_by, default_numbers, type_by, class_by, aux_by}, Forms.{shape_of}, WeakAux.{weak_aux_numbers}}
 use Rattle.std.proofs.Common.{◌≡◌, ℕ, zero, suc, ◌+◌, ◌^◌, ◌<◌, ◌≤◌, Bool, true, false, cond, ◌&&◌, eqb, List, [], ◌∷◌, length, map, Option, Some, None, refl, sym, ◌∙◌, ap, subst, inl, inr, arith}
-use Rattle.std.specs.Prelude.{◌⊎◌, slice_get, filter_map}
-use Rattle.std.specs.List.{enumerate_from}
-use Rattle.std.specs.Option.{unwrap_or, option_map, option_map_or, option_and_then}
-use Rattle.std.proofs.lemmas.Bool.{true≢false, eq-eqb, ne_eqb, le-leb, or_right}
-use Rattle.std.proofs.lemmas.Option.{same_Some, slice_get_within}
-use Rattle.std.proofs.lemmas.Map.Keys.{any_passes_from_place}
-use Rattle.oc_coff.specs.declared.form.CoffForm.{CoffForm}
-use Rattle.oc_linking.specs.declared.terms.Mark.{Mark}
-use Rattle.oc_linking.specs.declared.terms.Mark.TheVariants.{NoType, Object as ObjectMark, Function}
-use Rattle.oc_linking.specs.declared.terms.Visibility.TheVariants.{Default}
-use Rattle.oc_linking.specs.declared.terms.Value.{Value}
-use Rattle.oc_linking.specs.declared.terms.Fallback.{Fallback}
-use Rattle.oc_linking.specs.declared.terms.Binding.{Binding}
-use Rattle.oc_linking.specs.declared.terms.Binding.TheVariants.{Local, Global, Undefined, Common, Weak}
-use Rattle.oc_linking.specs.Parts.{is_local}
-use Rattle.oc_neutral.specs.declared.section.Section.{Section}
-use Rattle.oc_neutral.specs.declared.symbol.Symbol.{Symbol}
-use Rattle.oc_neutral.specs.Objects.{Object}
-use Rattle.oc_neutral.specs.Faces.{number_of, shown_fallback, shown_binding, shown_symbol}
-use Rattle.oc_neutral.specs.Coff.Strings.{default_name, has_default}
-use Rattle.oc_coff.specs.declared.symbol.SymbolEntry.{SymbolEntry}
+use Rattle.std.specs.{Prelude.{◌⊎◌, slice_get, filter_map}, List.{enumerate_from}, Option.{unwrap_or, option_map, option_map_or, option_and_then}}
+use Rattle.std.proofs.lemmas.{Bool.{true≢false, eq-eqb, ne_eqb, le-leb, or_right}, Option.{same_Some, slice_get_within}, Map.Keys.{any_passes_from_place}}
+use Rattle.oc_linking.specs.{declared.terms.Mark.{Mark}, declared.terms.Mark.TheVariants.{NoType, Object as ObjectMark, Function}}
+use Rattle.oc_linking.specs.{declared.terms.Visibility.TheVariants.{Default}, declared.terms.Value.{Value}, declared.terms.Fallback.{Fallback}}
+use Rattle.oc_linking.specs.{declared.terms.Binding.{Binding}, declared.terms.Binding.TheVariants.{Local, Global, Undefined, Common, Weak}, Parts.{is_local}}
+use Rattle.oc_neutral.specs.{declared.section.Section.{Section}, declared.symbol.Symbol.{Symbol}, Objects.{Object}}
+use Rattle.oc_neutral.specs.{Faces.{number_of, shown_fallback, shown_binding, shown_symbol}, Coff.Strings.{default_name, has_default}}
 use Rattle.oc_shelf.specs.Writing.Parts.{Laid, place_where}
 use Rattle.oc_shelf.proofs.WritingLaws.PartLemmas.{IsFound}
 use Rattle.oc_shelf.proofs.WritingLaws.MemberLemmas.{of_map, find_first, none_passes, member_map, filter_map-map, filter_map-results}
-use Rattle.oc_coff.specs.Names.{is_nothing, symbol_name}
-use Rattle.oc_coff.specs.Tables.{Slot}
-use Rattle.oc_coff.specs.Sections.{sections_in, position_from, position_of}
-use Rattle.oc_coff.specs.Entries.{Entry, entry_numbered, has_section, entries_in}
-use Rattle.oc_coff.specs.Symbols.{tags, is_tagged, is_section_symbol, value_of, fallback_at, fallback_by, binding_of, symbol_with, symbol_of, symbols_in}
+use Rattle.oc_shelf.proofs.WritingLaws.PackedLemmas.{Fit}
 use Rattle.oc_coff_file.specs.Lines.{Line, SectionLine, LocalLine, DefaultLine, OuterLine, lines_of, numbered_lines, is_default_line, is_outer_line, default_number, outer_number}
-use Rattle.oc_coff.specs.Values.{numbers_of, numbers_by, default_numbers, type_by, class_by, aux_by}
 use Rattle.oc_coff_file.specs.Canonical.{entry, tag_of, line_entry, symbol_field, string_table, weak_aux}
-use Rattle.oc_shows.specs.Seen.{seen_fallback, seen_symbol, new_position, seen_binding}
-use Rattle.oc_coff_file.proofs.SeenLaws.{seen_line, syms, shown, seen_there, symbols_seen}
-use Rattle.oc_coff_file.proofs.TableLaws.{made_tables}
-use Rattle.oc_coff_file.proofs.EntryLaws.{made_entry, outer_slot, weak_said}
-use Rattle.oc_coff_file.proofs.NameLaws.{symbol_named}
-use Rattle.oc_coff_file.proofs.SectionLaws.{made_section}
+use Rattle.oc_shows.specs.{Seen.{seen_fallback, seen_symbol, new_position, seen_binding}, SymbolLines.{is_weak_with}, Manners.{coff_manner, coff_mark}}
+use Rattle.oc_coff_file.proofs.{SeenLaws.{seen_line, syms, shown, seen_there, symbols_seen}, TableLaws.{made_tables}}
+use Rattle.oc_coff_file.proofs.{EntryLaws.{made_entry, outer_slot, weak_said}, NameLaws.{symbol_named}, SectionLaws.{made_section}}
 use Rattle.oc_coff_file.proofs.LineLaws.{IsLineOf, numbered_is_of, default_found, outer_found, one_number, one_default, numbered_line}
 use Rattle.oc_coff_file.proofs.CodedLaws.{IsForCoff, IsCodedValue, IsCodedFallback, IsCodedBinding, IsCodedSymbol, IsCodedLine, coded_line, weak_default, fewest}
-use Rattle.oc_shelf.proofs.WritingLaws.PackedLemmas.{Fit}
-use Rattle.oc_coff.specs.Forms.{shape_of}
-use Rattle.oc_coff.specs.WeakAux.{weak_aux_numbers}
-use Rattle.oc_shows.specs.SymbolLines.{is_weak_with}
-use Rattle.oc_shows.specs.Manners.{coff_manner, coff_mark}
 use Rattle.oc_linking.specs.declared.terms.Value.TheVariants as value
 use Rattle.oc_linking.specs.declared.terms.Fallback.TheVariants as fallback
 use Rattle.oc_linking.specs.Parts as parts

@@ -1,42 +1,27 @@
 -- The structures of a canonical file are read back.
-use Rattle.oc_coff.specs.WeakAux.{weak_aux_at}
-use Rattle.oc_coff.specs.SectionAux.{section_aux_at}
+use Rattle.oc_coff.specs.{WeakAux.{weak_aux_at}, SectionAux.{section_aux_at}, declared.form.CoffForm.{CoffForm}, declared.file_header.FileHeader.{FileHeader}}
+use Rattle.oc_coff.specs.{declared.section_header.SectionHeader.{SectionHeader}, declared.symbol.SymbolEntry.{SymbolEntry}}
+use Rattle.oc_coff.specs.{declared.relocation.Relocation.{Relocation}, declared.form.Shape.{Shape}, declared.form.Shape.TheVariants.{Usual, Big}}
+use Rattle.oc_coff.specs.{Forms.{header_size, shape_of, symbol_size, word_of}, FileHeader.{file_header_of, file_header_bytes, file_header_numbers}}
+use Rattle.oc_coff.specs.{SectionHeader.{section_header_at, section_header_bytes}, SymbolEntry.{symbol_at, symbol_bytes}}
+use Rattle.oc_coff.specs.Relocation.{relocation_at, relocation_bytes}
+use Rattle.oc_coff.specs.Tables.{SectionTable, Tables, relocs_place, section_table, strings_of, entries_of, section_tables, tables_of, slot_at, Slot, reloc_count}
+use Rattle.oc_coff.specs.Flags.{is_crowded, count_entry, with_count, pointer_to, section_flags, machine_of, version_of}
 use Rattle.std.proofs.Common.{◌≡◌, ℕ, suc, ◌+◌, ◌-◌, ◌*◌, ◌^◌, ◌<◌, ◌≤◌, Bool, true, false, cond, eqb, List, [], ◌∷◌, ◌++◌, length, map, take, drop, Some, refl, sym, ◌∙◌, ap, subst, arith, append-nil, length-append}
-use Rattle.std.specs.Prelude.{slice_get, flat_map, nat_lt, min}
-use Rattle.std.specs.List.{enumerate_from}
-use Rattle.std.proofs.lemmas.List.FromFn.{length-enumerate_from}
-use Rattle.std.proofs.lemmas.Bool.{eqb-true, ne_eqb, ltb-true, lt-ltb}
-use Rattle.oc_coff.specs.declared.form.CoffForm.{CoffForm}
+use Rattle.std.specs.{Prelude.{slice_get, flat_map, nat_lt, min}, List.{enumerate_from}}
+use Rattle.std.proofs.lemmas.{List.FromFn.{length-enumerate_from}, Bool.{eqb-true, ne_eqb, ltb-true, lt-ltb}}
 use Rattle.oc_base.specs.Numbers.{number_at, bytes_of_number}
 use Rattle.oc_base.proofs.NumberLaws.{length-bytes_of_number}
-use Rattle.oc_neutral.specs.declared.section.Section.{Section}
-use Rattle.oc_neutral.specs.Objects.{Object}
-use Rattle.oc_neutral.specs.KindRules.{has}
-use Rattle.oc_neutral.specs.declared.coff.TheConstants.{IMAGE_SCN_LNK_NRELOC_OVFL}
-use Rattle.oc_coff.specs.declared.file_header.FileHeader.{FileHeader}
-use Rattle.oc_coff.specs.declared.section_header.SectionHeader.{SectionHeader}
-use Rattle.oc_coff.specs.declared.symbol.SymbolEntry.{SymbolEntry}
-use Rattle.oc_coff.specs.declared.relocation.Relocation.{Relocation}
-use Rattle.oc_coff.specs.declared.form.Shape.{Shape}
-use Rattle.oc_coff.specs.declared.form.Shape.TheVariants.{Usual, Big}
-use Rattle.oc_coff.specs.Forms.{header_size, shape_of, symbol_size, word_of}
-use Rattle.oc_coff.specs.FileHeader.{file_header_of, file_header_bytes, file_header_numbers}
-use Rattle.oc_coff.specs.SectionHeader.{section_header_at, section_header_bytes}
-use Rattle.oc_coff.specs.SymbolEntry.{symbol_at, symbol_bytes}
-use Rattle.oc_coff.specs.Relocation.{relocation_at, relocation_bytes}
+use Rattle.oc_neutral.specs.{declared.section.Section.{Section}, Objects.{Object}, KindRules.{has}, declared.coff.TheConstants.{IMAGE_SCN_LNK_NRELOC_OVFL}}
 use Rattle.oc_shelf.proofs.WritingLaws.PackedLemmas.{Fit}
-use Rattle.oc_coff_file.proofs.StructureLaws.{IsShaped, FitSymbol, file_header_of-bytes, section_header_numbers, length-section_header_bytes, section_header_at-bytes, section_header_at-shift, symbol_at-bytes, length-relocation_bytes, relocation_at-bytes, relocation_at-shift, relocation_numbers}
-use Rattle.oc_shelf.specs.Writing.Parts.{Stands, place_where}
-use Rattle.oc_shelf.specs.Reading.Rows.{rows}
 use Rattle.oc_shelf.proofs.WritingLaws.StandingLemmas.{stands_front, stands_back, stands_drop, stands_take, stands_number, number_within, bytes_within, rows_read}
 use Rattle.oc_shelf.proofs.WritingLaws.MemberLemmas.{map-alike, map-map, each_enumerated}
-use Rattle.oc_coff.specs.Tables.{SectionTable, Tables, relocs_place, section_table, strings_of, entries_of, section_tables, tables_of, slot_at, Slot, reloc_count}
-use Rattle.oc_coff_file.specs.Lines.{numbered_lines, entry_count}
-use Rattle.oc_coff_file.specs.Bodies.{raw_of, relocs_of}
-use Rattle.oc_coff.specs.Flags.{is_crowded, count_entry, with_count, pointer_to, section_flags, machine_of, version_of}
+use Rattle.oc_coff_file.proofs.StructureLaws.{IsShaped, FitSymbol, file_header_of-bytes, section_header_numbers, length-section_header_bytes, section_header_at-bytes, section_header_at-shift, symbol_at-bytes, length-relocation_bytes, relocation_at-bytes, relocation_at-shift, relocation_numbers}
+use Rattle.oc_coff_file.proofs.PartLaws.{header_is_eight, entries_are_rows, length-entry_rows, stands_raw, stands_relocs, table_place, table_past, table_place_is, stands_symbols, stands_strings, length-coff_file, stands_header, stands_headers, length-raw, raw_past}
+use Rattle.oc_shelf.specs.{Writing.Parts.{Stands, place_where}, Reading.Rows.{rows}}
+use Rattle.oc_coff_file.specs.{Lines.{numbered_lines, entry_count}, Bodies.{raw_of, relocs_of}}
 use Rattle.oc_coff_file.specs.Layout.{text_of, laid_parts, is_raw, is_relocs, is_symbol_table}
 use Rattle.oc_coff_file.specs.Canonical.{header_at, entry_rows, file_header, string_table, coff_file}
-use Rattle.oc_coff_file.proofs.PartLaws.{header_is_eight, entries_are_rows, length-entry_rows, stands_raw, stands_relocs, table_place, table_past, table_place_is, stands_symbols, stands_strings, length-coff_file, stands_header, stands_headers, length-raw, raw_past}
 use Rattle.oc_target.proofs.MeetsConditions.{not_below}
 
 -- what the header counts

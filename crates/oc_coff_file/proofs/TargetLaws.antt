@@ -1,40 +1,22 @@
 -- The targets of a canonical file are those of its object.
-use Rattle.oc_coff.specs.Forms.{word_of}
+use Rattle.oc_coff.specs.{Forms.{word_of}, declared.form.CoffForm.{CoffForm}, Entries.{entries_in, entry_numbered}, Sections.{sections_in}}
+use Rattle.oc_coff.specs.{Symbols.{is_own, value_of, symbol_of}, Targets.{Aim, aim_at, aim_for, aim_in}}
 use Rattle.std.proofs.Common.{◌≡◌, ℕ, ◌+◌, ◌<◌, ◌^◌, Bool, true, false, cond, List, length, Option, Some, None, refl, sym, ◌∙◌, ap, arith}
-use Rattle.std.specs.Prelude.{slice_get}
-use Rattle.std.specs.Option.{option_map, option_and_then}
-use Rattle.std.proofs.lemmas.Bool.{le-leb}
-use Rattle.std.proofs.lemmas.Option.{slice_get_within}
-use Rattle.oc_coff.specs.declared.form.CoffForm.{CoffForm}
+use Rattle.std.specs.{Prelude.{slice_get}, Option.{option_map, option_and_then}}
+use Rattle.std.proofs.lemmas.{Bool.{le-leb}, Option.{slice_get_within}}
 use Rattle.oc_linking.specs.declared.terms.Value.TheVariants as value
 use Rattle.oc_linking.specs.declared.terms.Fallback.TheVariants as fallback
-use Rattle.oc_linking.specs.declared.terms.Binding.{Binding}
-use Rattle.oc_linking.specs.declared.terms.Binding.TheVariants.{Local, Global, Undefined, Common, Weak}
-use Rattle.oc_linking.specs.Parts.{is_local}
-use Rattle.oc_linking.specs.Rules.{Named, Symbolic}
-use Rattle.oc_linking.specs.Targets.{Target}
-use Rattle.oc_neutral.specs.declared.section.Section.{Section}
-use Rattle.oc_neutral.specs.declared.symbol.Symbol.{Symbol}
-use Rattle.oc_neutral.specs.Objects.{Object}
-use Rattle.oc_neutral.specs.Faces.{shown_binding, shown_symbol}
-use Rattle.oc_shows.specs.Manners.{coff_manner}
-use Rattle.oc_shows.specs.RowFields.{place_target}
-use Rattle.oc_shows.specs.Seen.{seen_binding, seen_symbol}
+use Rattle.oc_linking.specs.{declared.terms.Binding.{Binding}, declared.terms.Binding.TheVariants.{Local, Global, Undefined, Common, Weak}, Parts.{is_local}}
+use Rattle.oc_linking.specs.{Rules.{Named, Symbolic}, Targets.{Target}}
+use Rattle.oc_neutral.specs.{declared.section.Section.{Section}, declared.symbol.Symbol.{Symbol}, Objects.{Object}, Faces.{shown_binding, shown_symbol}}
 use Rattle.oc_neutral.specs.TargetRelocations.{is_homeless}
+use Rattle.oc_shows.specs.{Manners.{coff_manner}, RowFields.{place_target}, Seen.{seen_binding, seen_symbol}}
 use Rattle.oc_shelf.specs.Writing.Parts.{Laid}
 use Rattle.oc_made_files.proofs.MadeLaws.{named_by_symbol}
-use Rattle.oc_coff.specs.Entries.{entries_in, entry_numbered}
-use Rattle.oc_coff.specs.Sections.{sections_in}
-use Rattle.oc_coff.specs.Symbols.{is_own, value_of, symbol_of}
-use Rattle.oc_coff.specs.Targets.{Aim, aim_at, aim_for, aim_in}
 use Rattle.oc_coff_file.specs.Lines.{Line, SectionLine, OuterLine, numbered_lines, is_section_line, is_outer_line, section_number, outer_number}
 use Rattle.oc_coff_file.specs.Canonical.{symbol_field, line_entry, string_table}
-use Rattle.oc_coff_file.proofs.TableLaws.{made_tables}
-use Rattle.oc_coff_file.proofs.EntryLaws.{made_entry}
-use Rattle.oc_coff_file.proofs.LineLaws.{section_found, outer_found}
-use Rattle.oc_coff_file.proofs.CodedLaws.{IsForCoff, fewest}
-use Rattle.oc_coff_file.proofs.SeenLaws.{shown, syms}
-use Rattle.oc_coff_file.proofs.SymbolLaws.{AreTagged, S, E, entry_where, value_made, line_read}
+use Rattle.oc_coff_file.proofs.{TableLaws.{made_tables}, EntryLaws.{made_entry}, LineLaws.{section_found, outer_found}, CodedLaws.{IsForCoff, fewest}}
+use Rattle.oc_coff_file.proofs.{SeenLaws.{shown, syms}, SymbolLaws.{AreTagged, S, E, entry_where, value_made, line_read}}
 
 module _ (w : CoffForm) (n : Object) (is : IsForCoff w n) (tags_fit : AreTagged w n) (small : length (string_table w n) < 2 ^ 32)
     (sections : sections_in (made_tables w n) ≡ S w n is) (entries : entries_in (made_tables w n) ≡ E w n is) where

@@ -1,28 +1,15 @@
 -- The canonical file of an object that is ready for COFF is well formed and shows the object that is seen.
-use Rattle.oc_coff.specs.Forms.{shape_of, word_of}
+use Rattle.oc_coff.specs.{Forms.{shape_of, word_of}, declared.form.CoffForm.{CoffForm}, declared.form.CoffForm.TheVariants.{Usual32, Usual64, Big32, Big64}}
+use Rattle.oc_coff.specs.{HeaderFaults.{header_conditions, header_stage}, SectionFaults.{section_stage}, SymbolFaults.{symbol_stage}}
+use Rattle.oc_coff.specs.{RelocationFaults.{relocation_stage}, Rules.{stages_of, fault_of, coff_dialect, fault_by}}
 use Rattle.std.proofs.Common.{◌≡◌, ℕ, None, refl, sym, ◌∙◌, ap, subst, List, [], ◌∷◌}
-use Rattle.oc_coff.specs.declared.form.CoffForm.{CoffForm}
-use Rattle.oc_coff.specs.declared.form.CoffForm.TheVariants.{Usual32, Usual64, Big32, Big64}
-use Rattle.oc_linking.specs.Keeping.{all}
-use Rattle.oc_linking.specs.FirstFault.{first_fault}
-use Rattle.oc_neutral.specs.Objects.{Object}
-use Rattle.oc_neutral.specs.Dialects.{IsDialect}
+use Rattle.oc_linking.specs.{Keeping.{all}, FirstFault.{first_fault}}
+use Rattle.oc_neutral.specs.{Objects.{Object}, Dialects.{IsDialect}}
 use Rattle.oc_shelf.proofs.ReadingLaws.StageLemmas.{Unbroken, no_first_fault}
-use Rattle.oc_coff.specs.HeaderFaults.{header_conditions, header_stage}
-use Rattle.oc_coff.specs.SectionFaults.{section_stage}
-use Rattle.oc_coff.specs.SymbolFaults.{symbol_stage}
-use Rattle.oc_coff.specs.RelocationFaults.{relocation_stage}
-use Rattle.oc_coff.specs.Rules.{stages_of, fault_of, coff_dialect, fault_by}
-use Rattle.oc_coff_file.specs.Canonical.{coff_file}
-use Rattle.oc_coff_file.specs.Writing.{CoffIsWritten}
-use Rattle.oc_coff_file.proofs.TableLaws.{header_read, made_tables}
-use Rattle.oc_coff_file.proofs.CodedLaws.{IsForCoff, for_coff}
-use Rattle.oc_coff_file.proofs.CodableLaws.{HasNumbers, has_numbers}
-use Rattle.oc_coff_file.proofs.ShowsLaw.{read, entries_are, carried_are, sections_are, coff_shows}
-use Rattle.oc_coff_file.proofs.HeaderClean.{header_clean}
-use Rattle.oc_coff_file.proofs.SectionClean.{sections_clean}
-use Rattle.oc_coff_file.proofs.SymbolClean.{symbols_clean}
-use Rattle.oc_coff_file.proofs.RelocationClean.{relocations_clean}
+use Rattle.oc_coff_file.specs.{Canonical.{coff_file}, Writing.{CoffIsWritten}}
+use Rattle.oc_coff_file.proofs.{TableLaws.{header_read, made_tables}, CodedLaws.{IsForCoff, for_coff}, CodableLaws.{HasNumbers, has_numbers}}
+use Rattle.oc_coff_file.proofs.{ShowsLaw.{read, entries_are, carried_are, sections_are, coff_shows}, HeaderClean.{header_clean}, SectionClean.{sections_clean}}
+use Rattle.oc_coff_file.proofs.{SymbolClean.{symbols_clean}, RelocationClean.{relocations_clean}}
 
 -- COFF has the words and the alignments of its format
 pub coff_is_dialect : (w : CoffForm) → IsDialect (coff_dialect w)

@@ -1,24 +1,14 @@
 -- The bytes and the relocation entries of an output's sections (PE/COFF, "COFF Relocations" and "Section Flags"; our profile).
-use Rattle.std.specs.Prelude.{ℕ, List, map, Option, Result, Ok, Err}
-use Rattle.std.specs.Option.{option_map, option_map_or}
-use Rattle.oc_coff.specs.declared.form.CoffForm.{CoffForm}
-use Rattle.oc_linking.specs.declared.terms.Patch.{Patch}
-use Rattle.oc_linking.specs.Images.{overlay}
-use Rattle.oc_algebra.specs.declared.fields.AddendTooWide.{AddendTooWide}
-use Rattle.oc_algebra.specs.Fields.{to_field_of}
-use Rattle.oc_chains.specs.declared.field.Field.{Field}
-use Rattle.oc_chains.specs.Lists.{list_of}
-use Rattle.oc_neutral.specs.declared.section.Section.{Section}
-use Rattle.oc_neutral.specs.declared.reloc.Reloc.{Reloc}
-use Rattle.oc_neutral.specs.declared.reloc.Target.{Target}
+use Rattle.std.specs.{Prelude.{ℕ, List, map, Option, Result, Ok, Err}, Option.{option_map, option_map_or}}
+use Rattle.oc_coff.specs.{declared.form.CoffForm.{CoffForm}, declared.constants.TheConstants.{IMAGE_REL_I386_ABSOLUTE}}
+use Rattle.oc_coff.specs.{declared.relocation.Relocation.{Relocation}, Forms.{format_of, word_of}}
+use Rattle.oc_linking.specs.{declared.terms.Patch.{Patch}, Images.{overlay}}
+use Rattle.oc_algebra.specs.{declared.fields.AddendTooWide.{AddendTooWide}, Fields.{to_field_of}}
+use Rattle.oc_chains.specs.{declared.field.Field.{Field}, Lists.{list_of}}
+use Rattle.oc_neutral.specs.{declared.section.Section.{Section}, declared.reloc.Reloc.{Reloc}, declared.reloc.Target.{Target}, Objects.{Object, reloc_at}}
+use Rattle.oc_neutral.specs.{Rows.{Row, shift_of}, Spelling.{written_row}}
 use Rattle.oc_neutral.specs.declared.reloc.Target.TheVariants as target
-use Rattle.oc_neutral.specs.Objects.{Object, reloc_at}
-use Rattle.oc_neutral.specs.Rows.{Row, shift_of}
-use Rattle.oc_neutral.specs.Spelling.{written_row}
 use Rattle.oc_shelf.specs.Writing.Parts.{Laid}
-use Rattle.oc_coff.specs.declared.constants.TheConstants.{IMAGE_REL_I386_ABSOLUTE}
-use Rattle.oc_coff.specs.declared.relocation.Relocation.{Relocation}
-use Rattle.oc_coff.specs.Forms.{format_of, word_of}
 use Rattle.oc_coff_file.specs.Lines.{Line, section_number, outer_number}
 
 -- the number of an answer, 0 where there is none

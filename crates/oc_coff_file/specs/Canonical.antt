@@ -1,44 +1,27 @@
 -- The canonical file of an object that is ready for COFF (PE/COFF; our profile).
 use Rattle.std.specs.Prelude.{ℕ, ◌+◌, if◌then◌else◌, List, [], ◌∷◌, ◌++◌, length, map, flat_map, decimal, min, Option, ◌&&◌, Bool}
-use Rattle.std.specs.List.{find, list_any, enumerate_from}
-use Rattle.std.specs.Option.{option_and_then, option_map_or}
+use Rattle.std.specs.{List.{find, list_any, enumerate_from}, Option.{option_and_then, option_map_or}}
 use Rattle.oc_coff.specs.declared.form.CoffForm.{CoffForm}
-use Rattle.oc_base.specs.Numbers.{bytes_of_number}
-use Rattle.oc_linking.specs.declared.terms.Value.{Value}
-use Rattle.oc_linking.specs.declared.terms.Value.TheVariants as value
-use Rattle.oc_linking.specs.declared.terms.Fallback.{Fallback}
-use Rattle.oc_linking.specs.declared.terms.Fallback.TheVariants as fallback
-use Rattle.oc_linking.specs.declared.terms.Binding.{Binding}
-use Rattle.oc_linking.specs.declared.terms.Binding.TheVariants.{Local, Global, Undefined, Common, Weak}
-use Rattle.oc_neutral.specs.declared.section.Section.{Section}
-use Rattle.oc_neutral.specs.declared.symbol.Symbol.{Symbol}
-use Rattle.oc_neutral.specs.Objects.{Object}
-use Rattle.oc_neutral.specs.Normal.{Place}
-use Rattle.oc_neutral.specs.KeySymbols.{global_place, is_key_at, is_key_name, lies_in}
-use Rattle.oc_neutral.specs.Coff.Strings.{is_long, is_tabled, default_name}
-use Rattle.oc_target.specs.CoffMeets.{offset_of}
-use Rattle.oc_neutral.specs.declared.coff.TheConstants.{STRINGS_HEAD}
-use Rattle.oc_shelf.specs.Writing.Parts.{Laid, joined, place_where}
 use Rattle.oc_coff.specs.declared.constants.TheConstants.{IMAGE_SYM_CLASS_STATIC, IMAGE_COMDAT_SELECT_ANY, IMAGE_COMDAT_SELECT_ASSOCIATIVE, IMAGE_WEAK_EXTERN_SEARCH_ALIAS, OVERFLOWED_COUNT}
-use Rattle.oc_coff.specs.declared.file_header.FileHeader.{FileHeader}
-use Rattle.oc_coff.specs.declared.section_header.SectionHeader.{SectionHeader}
-use Rattle.oc_coff.specs.declared.symbol.SymbolEntry.{SymbolEntry}
-use Rattle.oc_coff.specs.declared.section_aux.SectionAux.{SectionAux}
-use Rattle.oc_coff.specs.declared.weak_aux.WeakAux.{WeakAux}
-use Rattle.oc_coff.specs.declared.relocation.Relocation.{Relocation}
-use Rattle.oc_coff.specs.FileHeader.{file_header_bytes}
-use Rattle.oc_coff.specs.SectionHeader.{section_header_bytes}
-use Rattle.oc_coff.specs.SymbolEntry.{symbol_bytes}
-use Rattle.oc_coff.specs.SectionAux.{section_aux_bytes}
-use Rattle.oc_coff.specs.WeakAux.{weak_aux_bytes}
-use Rattle.oc_coff.specs.Relocation.{relocation_bytes}
-use Rattle.oc_coff.specs.Names.{padded}
-use Rattle.oc_coff.specs.declared.form.Shape.{Shape}
-use Rattle.oc_coff.specs.Forms.{format_of, shape_of, word_of}
-use Rattle.oc_coff_file.specs.Lines.{Line, SectionLine, LocalLine, DefaultLine, OuterLine, numbered_lines, entry_count, default_number, outer_number}
-use Rattle.oc_coff_file.specs.Bodies.{raw_of, relocs_of}
+use Rattle.oc_coff.specs.{declared.file_header.FileHeader.{FileHeader}, declared.section_header.SectionHeader.{SectionHeader}}
+use Rattle.oc_coff.specs.{declared.symbol.SymbolEntry.{SymbolEntry}, declared.section_aux.SectionAux.{SectionAux}, declared.weak_aux.WeakAux.{WeakAux}}
+use Rattle.oc_coff.specs.{declared.relocation.Relocation.{Relocation}, FileHeader.{file_header_bytes}, SectionHeader.{section_header_bytes}}
+use Rattle.oc_coff.specs.{SymbolEntry.{symbol_bytes}, SectionAux.{section_aux_bytes}, WeakAux.{weak_aux_bytes}, Relocation.{relocation_bytes}, Names.{padded}}
+use Rattle.oc_coff.specs.{declared.form.Shape.{Shape}, Forms.{format_of, shape_of, word_of}}
 use Rattle.oc_coff.specs.Flags.{machine_of, pointer_to, section_flags, version_of, with_count}
 use Rattle.oc_coff.specs.Values.{numbers_by, default_numbers, type_by, class_by, aux_by}
+use Rattle.oc_base.specs.Numbers.{bytes_of_number}
+use Rattle.oc_linking.specs.{declared.terms.Value.{Value}, declared.terms.Fallback.{Fallback}, declared.terms.Binding.{Binding}}
+use Rattle.oc_linking.specs.declared.terms.Binding.TheVariants.{Local, Global, Undefined, Common, Weak}
+use Rattle.oc_linking.specs.declared.terms.Value.TheVariants as value
+use Rattle.oc_linking.specs.declared.terms.Fallback.TheVariants as fallback
+use Rattle.oc_neutral.specs.{declared.section.Section.{Section}, declared.symbol.Symbol.{Symbol}, Objects.{Object}, Normal.{Place}}
+use Rattle.oc_neutral.specs.{KeySymbols.{global_place, is_key_at, is_key_name, lies_in}, Coff.Strings.{is_long, is_tabled, default_name}}
+use Rattle.oc_neutral.specs.declared.coff.TheConstants.{STRINGS_HEAD}
+use Rattle.oc_target.specs.CoffMeets.{offset_of}
+use Rattle.oc_shelf.specs.Writing.Parts.{Laid, joined, place_where}
+use Rattle.oc_coff_file.specs.Lines.{Line, SectionLine, LocalLine, DefaultLine, OuterLine, numbered_lines, entry_count, default_number, outer_number}
+use Rattle.oc_coff_file.specs.Bodies.{raw_of, relocs_of}
 use Rattle.oc_coff_file.specs.Layout.{Part, FileHead, SectionHeads, Raw, Relocs, SymbolTable, StringTable, text_of, laid_parts, is_raw, is_relocs, is_symbol_table}
 
 -- ... names

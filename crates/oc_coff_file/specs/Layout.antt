@@ -1,19 +1,12 @@
 -- The parts of an output, their sizes and places, from counts alone (our profile).
-use Rattle.std.specs.Prelude.{ℕ, ◌+◌, ◌*◌, Bool, true, false, nat_eq, List, [], ◌∷◌, ◌++◌, length, flat_map}
-use Rattle.std.specs.List.{enumerate_from}
-use Rattle.oc_coff.specs.declared.form.CoffForm.{CoffForm}
+use Rattle.std.specs.{Prelude.{ℕ, ◌+◌, ◌*◌, Bool, true, false, nat_eq, List, [], ◌∷◌, ◌++◌, length, flat_map}, List.{enumerate_from}}
+use Rattle.oc_coff.specs.{declared.form.CoffForm.{CoffForm}, declared.section_header.TheConstants.{SECTION_HEADER_SIZE}}
+use Rattle.oc_coff.specs.{declared.relocation.TheConstants.{RELOCATION_SIZE}, Forms.{format_of, header_size, shape_of, symbol_size}, Flags.{with_count}}
 use Rattle.oc_base.specs.Strings.{table_text}
-use Rattle.oc_neutral.specs.declared.section.Section.{Section}
-use Rattle.oc_neutral.specs.Objects.{Object}
+use Rattle.oc_neutral.specs.{declared.section.Section.{Section}, Objects.{Object}, declared.coff.TheConstants.{STRINGS_HEAD}}
 use Rattle.oc_target.specs.CoffMeets.{strings_of}
 use Rattle.oc_shelf.specs.Writing.Parts.{Laid, laid, behind}
-use Rattle.oc_neutral.specs.declared.coff.TheConstants.{STRINGS_HEAD}
-use Rattle.oc_coff.specs.declared.section_header.TheConstants.{SECTION_HEADER_SIZE}
-use Rattle.oc_coff.specs.declared.relocation.TheConstants.{RELOCATION_SIZE}
-use Rattle.oc_coff.specs.Forms.{format_of, header_size, shape_of, symbol_size}
-use Rattle.oc_coff_file.specs.Lines.{entry_count, numbered_lines}
-use Rattle.oc_coff_file.specs.Bodies.{relocs_of}
-use Rattle.oc_coff.specs.Flags.{with_count}
+use Rattle.oc_coff_file.specs.{Lines.{entry_count, numbered_lines}, Bodies.{relocs_of}}
 
 -- a part of the file; the bytes and the relocation entries of a section by its position
 pub data Part : Type 0 where

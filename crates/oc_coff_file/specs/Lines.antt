@@ -1,17 +1,12 @@
 -- The symbol table of an output: what is in it, in its order, and with which numbers (PE/COFF, "COFF Symbol Table", "COMDAT Sections" and
 -- "Auxiliary Format 3: Weak Externals"; our profile).
-use Rattle.std.specs.Prelude.{ℕ, Bool, false, not, ◌&&◌, nat_eq, List, ◌∷◌, ◌++◌, map, flat_map, filter}
-use Rattle.std.specs.List.{enumerate_from}
-use Rattle.oc_coff.specs.declared.form.CoffForm.{CoffForm}
+use Rattle.std.specs.{Prelude.{ℕ, Bool, false, not, ◌&&◌, nat_eq, List, ◌∷◌, ◌++◌, map, flat_map, filter}, List.{enumerate_from}}
+use Rattle.oc_coff.specs.{declared.form.CoffForm.{CoffForm}, Forms.{format_of}}
 use Rattle.oc_linking.specs.Parts.{is_local}
-use Rattle.oc_neutral.specs.declared.section.Section.{Section}
-use Rattle.oc_neutral.specs.declared.symbol.Symbol.{Symbol}
-use Rattle.oc_neutral.specs.Objects.{Object}
-use Rattle.oc_neutral.specs.KeySymbols.{is_key_at, is_key}
-use Rattle.oc_shows.specs.SymbolLines.{coff_entries, needs_default}
+use Rattle.oc_neutral.specs.{declared.section.Section.{Section}, declared.symbol.Symbol.{Symbol}, Objects.{Object}, KeySymbols.{is_key_at, is_key}}
 use Rattle.oc_neutral.specs.WrittenSymbols.{is_written}
+use Rattle.oc_shows.specs.SymbolLines.{coff_entries, needs_default}
 use Rattle.oc_shelf.specs.Writing.Parts.{Laid, laid, laid_end, behind, place_where}
-use Rattle.oc_coff.specs.Forms.{format_of}
 
 -- a symbol of the table: of a section, of a Local, of the default of a Weak, or of a symbol that is not Local; each by its position in the object
 pub data Line : Type 0 where

@@ -1,26 +1,16 @@
 -- What the symbols of relocation entries stand for.
-use Rattle.oc_coff.specs.Files.{CoffFile, tables_in}
+use Rattle.oc_coff.specs.{Files.{CoffFile, tables_in}, Tables.{Tables}, Entries.{Entry, entries_in, entry_numbered, name_of}, Sections.{sections_in}}
+use Rattle.oc_coff.specs.{Symbols.{binding_of, is_own, symbol_of, symbol_with, value_of}, Targets.{aim_in}, Head.{IsHeaded}}
 use Rattle.std.proofs.Common.{◌≡◌, ℕ, zero, suc, ◌+◌, ◌≤◌, inl, inr, Bool, true, false, cond, List, [], ◌∷◌, ◌++◌, length, get_or, map, Option, None, Some, refl, sym, ◌∙◌, ap, arith}
-use Rattle.std.specs.List.{range_with_len}
-use Rattle.std.specs.Option.{option_and_then, option_map}
-use Rattle.std.proofs.lemmas.Bool.{cases_lt}
-use Rattle.std.proofs.lemmas.List.FromFn.{get_or-map-range_with_len, length-map-range_with_len, map-range_with_len_more}
+use Rattle.std.specs.{List.{range_with_len}, Option.{option_and_then, option_map}}
+use Rattle.std.proofs.lemmas.{Bool.{cases_lt}, List.FromFn.{get_or-map-range_with_len, length-map-range_with_len, map-range_with_len_more}}
 use Rattle.oc_base.specs.declared.format.Word.{Word}
-use Rattle.oc_linking.specs.declared.terms.Binding.{Binding}
-use Rattle.oc_linking.specs.declared.terms.Binding.TheVariants.{Local, Global, Undefined, Common, Weak}
+use Rattle.oc_linking.specs.{declared.terms.Binding.{Binding}, declared.terms.Binding.TheVariants.{Local, Global, Undefined, Common, Weak}}
 use Rattle.oc_linking.specs.declared.terms.Value.{Value}
 use Rattle.oc_linking.specs.declared.terms.Value.TheVariants as value
-use Rattle.oc_coff.specs.Tables.{Tables}
-use Rattle.oc_coff.specs.Entries.{Entry, entries_in, entry_numbered, name_of}
-use Rattle.oc_coff.specs.Sections.{sections_in}
-use Rattle.oc_coff.specs.Symbols.{binding_of, is_own, symbol_of, symbol_with, value_of}
 use Rattle.oc_coff.specs.Targets as targets
-use Rattle.oc_coff.specs.Targets.{aim_in}
-use Rattle.oc_coff_judge.specs.declared.aims.AimKind.{AimKind}
-use Rattle.oc_coff_judge.specs.Aimed.{aim_bound, aim_for, aim_numbered, aim_placed, aim_with, aims_in, face_of}
-use Rattle.oc_coff_judge.specs.Found.{start_of}
-use Rattle.oc_coff.specs.Head.{IsHeaded}
-use Rattle.oc_coff_judge.specs.Numbered.{entry_by}
+use Rattle.oc_coff_judge.specs.{declared.aims.AimKind.{AimKind}, Aimed.{aim_bound, aim_for, aim_numbered, aim_placed, aim_with, aims_in, face_of}}
+use Rattle.oc_coff_judge.specs.{Found.{start_of}, Numbered.{entry_by}}
 use Rattle.oc_coff_judge.proofs.StartLemmas.{start_none, start_there}
 
 -- whatever the word is, a symbol stands for the same

@@ -1,14 +1,9 @@
 -- What the first auxiliary entry of an entry says of a section.
-use Rattle.oc_coff.specs.Files.{CoffFile, slot_in, tables_in}
+use Rattle.oc_coff.specs.{Files.{CoffFile, slot_in, tables_in}, declared.section_aux.SectionAux.{SectionAux}, declared.weak_aux.WeakAux.{WeakAux}}
+use Rattle.oc_coff.specs.{Tables.{Slot}, Head.{IsHeaded}}
 use Rattle.std.proofs.Common.{◌≡◌, ℕ, ◌+◌, ◌<◌, ◌≤◌, Bool, true, false, cond, eqb, length, Option, None, Some, refl, sym, ◌∙◌, ap, eq-eqb}
-use Rattle.std.specs.Option.{option_map}
-use Rattle.std.proofs.lemmas.Bool.{ne_eqb}
-use Rattle.std.proofs.lemmas.Option.{slice_get_past}
-use Rattle.std.specs.Prelude.{slice_get}
-use Rattle.oc_coff.specs.declared.section_aux.SectionAux.{SectionAux}
-use Rattle.oc_coff.specs.declared.weak_aux.WeakAux.{WeakAux}
-use Rattle.oc_coff.specs.Tables.{Slot}
-use Rattle.oc_coff.specs.Head.{IsHeaded}
+use Rattle.std.specs.{Option.{option_map}, Prelude.{slice_get}}
+use Rattle.std.proofs.lemmas.{Bool.{ne_eqb}, Option.{slice_get_past}}
 use Rattle.oc_coff_judge.specs.Numbered.{entry_by, entry_place}
 use Rattle.oc_coff.proofs.HeadLemmas.{entry_there}
 

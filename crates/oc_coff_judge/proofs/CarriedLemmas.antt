@@ -1,12 +1,9 @@
 -- Sections that are carried, by their kinds.
 use Rattle.std.proofs.Common.{◌≡◌, ℕ, ◌+◌, Option, None, Some, refl, sym, ◌∙◌, ap}
-use Rattle.std.specs.Prelude.{is_some, slice_get}
-use Rattle.std.specs.Option.{option_map, option_and_then}
+use Rattle.std.specs.{Prelude.{is_some, slice_get}, Option.{option_map, option_and_then}}
 use Rattle.oc_linking.specs.declared.terms.Kind.{Kind}
-use Rattle.oc_coff.specs.declared.section_header.SectionHeader.{SectionHeader}
-use Rattle.oc_coff.specs.Tables.{SectionTable, Tables, section_table}
-use Rattle.oc_coff.specs.Sections.{Carried, carried_of, is_stored, kind_in, section_of}
-use Rattle.oc_coff.specs.Files.{CoffFile, tables_in}
+use Rattle.oc_coff.specs.{declared.section_header.SectionHeader.{SectionHeader}, Tables.{SectionTable, Tables, section_table}}
+use Rattle.oc_coff.specs.{Sections.{Carried, carried_of, is_stored, kind_in, section_of}, Files.{CoffFile, tables_in}}
 use Rattle.oc_coff_judge.specs.Led.{carried_at, section_at}
 
 -- section i, where its header is that and its kind that

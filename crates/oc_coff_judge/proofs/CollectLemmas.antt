@@ -2,10 +2,7 @@
 use Rattle.std.proofs.Common.{◌≡◌, length, map, ◌∙◌, ap}
 use Rattle.oc_shelf.specs.Reading.Collected.{collected}
 use Rattle.oc_shelf.proofs.ReadingLaws.CollectedLemmas.{collected-map, filtered, numbered}
-use Rattle.oc_coff.specs.Tables.{Tables}
-use Rattle.oc_coff.specs.Entries.{entries_in}
-use Rattle.oc_coff.specs.Sections.{Carried, carried_in, carried_of, sections_in}
-use Rattle.oc_coff.specs.Symbols.{symbol_of, symbols_in}
+use Rattle.oc_coff.specs.{Tables.{Tables}, Entries.{entries_in}, Sections.{Carried, carried_in, carried_of, sections_in}, Symbols.{symbol_of, symbols_in}}
 use Rattle.oc_coff_judge.specs.Led.{carried_at, section_at, symbol_at}
 
 -- the carried sections and symbols of a file, one by one

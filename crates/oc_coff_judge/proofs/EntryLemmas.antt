@@ -1,12 +1,8 @@
 -- The symbols of a file stand where their numbers say, and their numbers rise.
-use Rattle.oc_coff.specs.Files.{CoffFile, tables_in}
+use Rattle.oc_coff.specs.{Files.{CoffFile, tables_in}, Tables.{Slot}, Entries.{Entry, entries_in, symbols_from}, Head.{IsHeaded}}
 use Rattle.std.proofs.Common.{◌≡◌, ℕ, zero, suc, ◌+◌, ◌-◌, ◌<◌, ◌≤◌, Bool, true, false, cond, eqb, List, [], ◌∷◌, length, drop, Some, refl, sym, ◌∙◌, ap, subst, arith}
-use Rattle.std.specs.Prelude.{slice_get, find, filter}
-use Rattle.std.specs.List.{AllByRecursion}
+use Rattle.std.specs.{Prelude.{slice_get, find, filter}, List.{AllByRecursion}}
 use Rattle.std.proofs.lemmas.Option.{none-some, same_Some}
-use Rattle.oc_coff.specs.Tables.{Slot}
-use Rattle.oc_coff.specs.Entries.{Entry, entries_in, symbols_from}
-use Rattle.oc_coff.specs.Head.{IsHeaded}
 use Rattle.oc_coff_judge.specs.Numbered.{entry_by}
 use Rattle.oc_coff_judge.proofs.NumberLemmas.{drop_whole, follow_of, slots_of, symbols_step}
 

@@ -1,43 +1,20 @@
 -- Relocation entries, section by section, and judged one after the other.
-use Rattle.oc_coff.specs.Files.{CoffFile, tables_in}
-use Rattle.std.proofs.Common.{◌≡◌, ℕ, zero, suc, ◌+◌, ◌*◌, ◌<◌, ◌≤◌, Bool, true, false, not, cond, ◌&&◌, ◌||◌, List, [], ◌∷◌, ◌++◌, length, take, append_assoc, Option, None, Some, refl, sym, ◌∙◌, ap, arith}
-use Rattle.std.specs.Prelude.{filter, flat_map, is_none, nat_lt, slice_get}
-use Rattle.std.specs.List.{list_any}
-use Rattle.std.specs.Option.{option_and_then, option_map, option_map_or}
-use Rattle.std.proofs.lemmas.Bool.{eqb-true}
-use Rattle.std.proofs.lemmas.List.Folds.{list_any_more}
-use Rattle.std.proofs.lemmas.Option.{get_or_from_slice_get}
-use Rattle.oc_base.specs.declared.format.Word.{Word}
-use Rattle.oc_base.specs.declared.format.Word.TheVariants.{W32, W64}
-use Rattle.oc_base.specs.declared.code.Code.{Code}
-use Rattle.oc_base.specs.declared.code.Code.TheVariants.{RelocKind, BadOffset, BadTarget, TargetKind, Overlap}
-use Rattle.oc_base.specs.declared.fault.Phase.TheVariants as phase
-use Rattle.oc_base.specs.declared.fault.Fault.{Fault}
-use Rattle.oc_linking.specs.declared.terms.Keep.{Keep}
-use Rattle.oc_linking.specs.Keeping.{keeps}
-use Rattle.oc_linking.specs.Fits.{bytes_of}
-use Rattle.oc_linking.specs.Numbers.{first_upto, or_else}
-use Rattle.oc_linking.specs.FirstFault.{Condition, first_broken, stage_fault}
-use Rattle.oc_neutral.specs.RelocTables.{row_of}
-use Rattle.oc_neutral.specs.Rows.{Row}
-use Rattle.oc_neutral.specs.TargetSections.{each_of}
-use Rattle.oc_shelf.specs.Reading.Collected.{collected, with_option}
-use Rattle.oc_shelf.specs.Reading.Firsts.{any_upto}
-use Rattle.oc_shelf.specs.Reading.Spans.{meets}
-use Rattle.oc_shelf.proofs.ReadingLaws.RowLemmas.{length-rows, row_at}
-use Rattle.oc_shelf.proofs.ReadingLaws.StageLemmas.{first_upto-head, first_upto-same}
-use Rattle.oc_coff.specs.declared.relocation.Relocation.{Relocation}
-use Rattle.oc_coff.specs.Relocation.{relocation_at}
-use Rattle.oc_coff.specs.Tables.{Tables}
-use Rattle.oc_coff.specs.Sections.{Carried, carried_in}
-use Rattle.oc_coff.specs.Targets.{Aim, aim_in}
-use Rattle.oc_coff.specs.Forms.{coff_format}
-use Rattle.oc_coff.specs.Fields.{says_nothing}
+use Rattle.oc_coff.specs.{Files.{CoffFile, tables_in}, declared.relocation.Relocation.{Relocation}, Relocation.{relocation_at}, Tables.{Tables}}
+use Rattle.oc_coff.specs.{Sections.{Carried, carried_in}, Targets.{Aim, aim_in}, Forms.{coff_format}, Fields.{says_nothing}}
 use Rattle.oc_coff.specs.RelocationFaults.{Judged, is_wrong_aim, judged_from, judged_in, meets_field, needs_home, relocation_conditions, relocation_stage, row_conditions}
+use Rattle.std.proofs.Common.{◌≡◌, ℕ, zero, suc, ◌+◌, ◌*◌, ◌<◌, ◌≤◌, Bool, true, false, not, cond, ◌&&◌, ◌||◌, List, [], ◌∷◌, ◌++◌, length, take, append_assoc, Option, None, Some, refl, sym, ◌∙◌, ap, arith}
+use Rattle.std.specs.{Prelude.{filter, flat_map, is_none, nat_lt, slice_get}, List.{list_any}, Option.{option_and_then, option_map, option_map_or}}
+use Rattle.std.proofs.lemmas.{Bool.{eqb-true}, List.Folds.{list_any_more}, Option.{get_or_from_slice_get}}
+use Rattle.oc_base.specs.{declared.format.Word.{Word}, declared.format.Word.TheVariants.{W32, W64}, declared.code.Code.{Code}}
+use Rattle.oc_base.specs.{declared.code.Code.TheVariants.{RelocKind, BadOffset, BadTarget, TargetKind, Overlap}, declared.fault.Fault.{Fault}}
+use Rattle.oc_base.specs.declared.fault.Phase.TheVariants as phase
+use Rattle.oc_linking.specs.{declared.terms.Keep.{Keep}, Keeping.{keeps}, Fits.{bytes_of}, Numbers.{first_upto, or_else}}
+use Rattle.oc_linking.specs.FirstFault.{Condition, first_broken, stage_fault}
+use Rattle.oc_neutral.specs.{RelocTables.{row_of}, Rows.{Row}, TargetSections.{each_of}}
+use Rattle.oc_shelf.specs.{Reading.Collected.{collected, with_option}, Reading.Firsts.{any_upto}, Reading.Spans.{meets}}
+use Rattle.oc_shelf.proofs.{ReadingLaws.RowLemmas.{length-rows, row_at}, ReadingLaws.StageLemmas.{first_upto-head, first_upto-same}}
 use Rattle.oc_coff_judge.specs.declared.aims.AimKind as aims
-use Rattle.oc_coff_judge.specs.declared.relocs.Table.{Table}
-use Rattle.oc_coff_judge.specs.Aimed.{face_of}
-use Rattle.oc_coff_judge.specs.Led.{carried_at}
+use Rattle.oc_coff_judge.specs.{declared.relocs.Table.{Table}, Aimed.{face_of}, Led.{carried_at}}
 use Rattle.oc_coff_judge.specs.Relocs.{IsTable, bytes_for, entry_fault, fault_in, faults_in, is_wrong, meets_upto, own_conditions, passes_bytes, reloc_fault, reloc_of, reloc_place, relocs_fault, row_for, span_of, takes_home, width_of}
 use Rattle.oc_coff_judge.proofs.CollectLemmas.{carried_are}
 

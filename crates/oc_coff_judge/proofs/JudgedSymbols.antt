@@ -1,36 +1,22 @@
 -- Symbols, judged one after the other.
-use Rattle.oc_coff.specs.Files.{CoffFile, slot_in, tables_in}
+use Rattle.oc_coff.specs.{Files.{CoffFile, slot_in, tables_in}, declared.constants.TheConstants.{IMAGE_SYM_CLASS_WEAK_EXTERNAL, IMAGE_SYM_DEBUG}}
+use Rattle.oc_coff.specs.{declared.symbol.SymbolEntry.{SymbolEntry}, Tables.{Tables, tables_of}, Entries.{Entry, entries_in, is_class, name_of}}
+use Rattle.oc_coff.specs.{Sections.{sections_in}, Symbols.{tagged_by}, SymbolFaults.{can_be_tagged, is_external, is_named, symbol_conditions, symbol_stage}}
 use Rattle.std.proofs.Common.{◌≡◌, ℕ, zero, suc, ◌+◌, ◌<◌, ◌≤◌, inl, inr, Bool, true, false, not, cond, ◌&&◌, ◌||◌, List, [], ◌∷◌, ◌++◌, length, map, take, get_or, bytes_eq, Option, None, Some, refl, sym, ◌∙◌, ap, arith}
-use Rattle.std.specs.Prelude.{nat_eq, slice_get, MatchOption}
-use Rattle.std.specs.List.{list_any}
+use Rattle.std.specs.{Prelude.{nat_eq, slice_get, MatchOption}, List.{list_any}}
 use Rattle.std.specs.Option.{is_some, option_and_then, option_copied, option_flatten, option_map, option_map_or}
-use Rattle.std.proofs.lemmas.Cmp.{nat_list_eq_equiv}
-use Rattle.std.proofs.lemmas.List.{length-map, map-append, take_more}
-use Rattle.std.proofs.lemmas.List.Folds.{list_any_more}
-use Rattle.std.proofs.lemmas.Option.{get_or_from_slice_get, slice_get-map, slice_get_cases, slice_get_within}
-use Rattle.std.proofs.lemmas.Slice.Eq.{bytes_eq-Decides}
+use Rattle.std.proofs.lemmas.{Cmp.{nat_list_eq_equiv}, List.{length-map, map-append, take_more}, List.Folds.{list_any_more}}
+use Rattle.std.proofs.lemmas.{Option.{get_or_from_slice_get, slice_get-map, slice_get_cases, slice_get_within}, Slice.Eq.{bytes_eq-Decides}}
 use denote.Ref.{Bor}
-use Rattle.oc_base.specs.declared.code.Code.TheVariants.{BadSymbol, SymbolKind}
-use Rattle.oc_base.specs.declared.fault.Fault.{Fault}
-use Rattle.oc_linking.specs.Numbers.{first_upto, or_else}
-use Rattle.oc_linking.specs.FirstFault.{Condition, fault_of, first_broken}
+use Rattle.oc_base.specs.{declared.code.Code.TheVariants.{BadSymbol, SymbolKind}, declared.fault.Fault.{Fault}}
+use Rattle.oc_linking.specs.{Numbers.{first_upto, or_else}, FirstFault.{Condition, fault_of, first_broken}}
 use Rattle.oc_linking.proofs.FirstFaultLaws.{first_upto_none}
-use Rattle.oc_strings.specs.declared.repeats.Repeat.{Repeat}
-use Rattle.oc_strings.specs.Repeats.{NameList, name_at, names_of, place_of, repeat_at, first_repeat}
+use Rattle.oc_strings.specs.{declared.repeats.Repeat.{Repeat}, Repeats.{NameList, name_at, names_of, place_of, repeat_at, first_repeat}}
 use Rattle.oc_shelf.proofs.ReadingLaws.StageLemmas.{first_broken-append}
-use Rattle.oc_coff.specs.declared.constants.TheConstants.{IMAGE_SYM_CLASS_WEAK_EXTERNAL, IMAGE_SYM_DEBUG}
-use Rattle.oc_coff.specs.declared.symbol.SymbolEntry.{SymbolEntry}
-use Rattle.oc_coff.specs.Tables.{Tables, tables_of}
-use Rattle.oc_coff.specs.Entries.{Entry, entries_in, is_class, name_of}
-use Rattle.oc_coff.specs.Sections.{sections_in}
-use Rattle.oc_coff.specs.Symbols.{tagged_by}
-use Rattle.oc_coff.specs.SymbolFaults.{can_be_tagged, is_external, is_named, symbol_conditions, symbol_stage}
 use Rattle.oc_coff_judge.specs.Classed.{classes_of, ends_at, parts_of, places_of, public_name, public_names, symbol_fault_at, tagged_of, tags_of}
-use Rattle.oc_coff_judge.specs.Classed as classed
 use Rattle.oc_coff_judge.specs.Numbered.{AreNumbers, entry_by, entry_place}
-use Rattle.oc_coff_judge.proofs.EntryLemmas.{number_is}
-use Rattle.oc_coff_judge.proofs.SoundSymbols.{sound_by}
-use Rattle.oc_coff_judge.proofs.StartLemmas.{symbol_here}
+use Rattle.oc_coff_judge.specs.Classed as classed
+use Rattle.oc_coff_judge.proofs.{EntryLemmas.{number_is}, SoundSymbols.{sound_by}, StartLemmas.{symbol_here}}
 use Rattle.oc_shows.proofs.RepeatLaws as laws
 
 -- ... part by part

@@ -1,35 +1,20 @@
 -- The relocation table of a section lies in the file, where no section has a fault.
-use Rattle.oc_coff.specs.Files.{CoffFile, tables_in}
-use Rattle.std.proofs.Common.{◌≡◌, ℕ, ◌+◌, ◌-◌, ◌*◌, ◌≤◌, Bool, true, false, cond, eqb, [], ◌∷◌, length, Option, None, Some, refl, sym, ◌∙◌, ap, subst, arith}
-use Rattle.std.specs.Prelude.{nat_lt, slice_get}
-use Rattle.std.specs.Option.{option_and_then, option_map}
-use Rattle.std.proofs.lemmas.Bool.{true≢false}
-use Rattle.std.proofs.lemmas.Bool.Decides.{nat_tests}
-use Rattle.std.proofs.lemmas.Option.{none-some, same_Some, slice_get_within}
-use Rattle.oc_base.specs.declared.fault.Fault.{Fault}
-use Rattle.oc_base.specs.Numbers.{number_at}
-use Rattle.oc_linking.specs.declared.terms.Kind.{Kind}
-use Rattle.oc_linking.specs.FirstFault.{first_broken, stage_fault}
-use Rattle.oc_linking.specs.declared.terms.Keep.{Keep}
-use Rattle.oc_linking.specs.Keeping.{keeps}
-use Rattle.oc_linking.specs.Numbers.{first_upto, or_else}
-use Rattle.oc_base.specs.declared.format.Word.{Word}
-use Rattle.oc_shelf.proofs.ReadingLaws.StageLemmas.{all_hold, clean_at}
-use Rattle.oc_coff.specs.declared.section_header.SectionHeader.{SectionHeader}
+use Rattle.oc_coff.specs.{Files.{CoffFile, tables_in}, declared.section_header.SectionHeader.{SectionHeader}}
 use Rattle.oc_coff.specs.Tables.{SectionTable, is_overflowed, reloc_count, relocs_place, section_table}
-use Rattle.oc_coff.specs.Sections.{Carried, carried_of, is_stored, kind_in, section_of}
-use Rattle.oc_coff.specs.HeaderFaults.{passes_end}
-use Rattle.oc_coff.specs.SectionFaults.{header_place, raw_conditions, section_fault, section_stage, table_conditions}
-use Rattle.oc_coff.specs.Relocation.{relocation_at}
-use Rattle.oc_shelf.specs.Reading.Rows.{rows}
-use Rattle.oc_base.specs.declared.code.Code.TheVariants.{BadTable, Short}
-use Rattle.oc_coff_judge.specs.Led.{carried_at}
-use Rattle.oc_coff_judge.specs.Judged.{copies_of, forms_of, section_fault_of}
-use Rattle.oc_coff_judge.specs.declared.relocs.Table.{Table}
+use Rattle.oc_coff.specs.{Sections.{Carried, carried_of, is_stored, kind_in, section_of}, HeaderFaults.{passes_end}}
+use Rattle.oc_coff.specs.{SectionFaults.{header_place, raw_conditions, section_fault, section_stage, table_conditions}, Relocation.{relocation_at}}
 use Rattle.oc_coff.specs.Head.{IsHeaded}
+use Rattle.std.proofs.Common.{◌≡◌, ℕ, ◌+◌, ◌-◌, ◌*◌, ◌≤◌, Bool, true, false, cond, eqb, [], ◌∷◌, length, Option, None, Some, refl, sym, ◌∙◌, ap, subst, arith}
+use Rattle.std.specs.{Prelude.{nat_lt, slice_get}, Option.{option_and_then, option_map}}
+use Rattle.std.proofs.lemmas.{Bool.{true≢false}, Bool.Decides.{nat_tests}, Option.{none-some, same_Some, slice_get_within}}
+use Rattle.oc_base.specs.{declared.fault.Fault.{Fault}, Numbers.{number_at}, declared.format.Word.{Word}, declared.code.Code.TheVariants.{BadTable, Short}}
+use Rattle.oc_linking.specs.{declared.terms.Kind.{Kind}, FirstFault.{first_broken, stage_fault}, declared.terms.Keep.{Keep}, Keeping.{keeps}}
+use Rattle.oc_linking.specs.Numbers.{first_upto, or_else}
+use Rattle.oc_shelf.proofs.ReadingLaws.StageLemmas.{all_hold, clean_at}
+use Rattle.oc_shelf.specs.Reading.Rows.{rows}
+use Rattle.oc_coff_judge.specs.{Led.{carried_at}, Judged.{copies_of, forms_of, section_fault_of}, declared.relocs.Table.{Table}}
 use Rattle.oc_coff_judge.specs.Relocs.{IsTable, entry_fault, fault_in, faults_in, relocs_fault}
-use Rattle.oc_coff_judge.proofs.JudgedRelocs.{table_faults}
-use Rattle.oc_coff_judge.proofs.SectionLemmas.{at, limit_part, name_part, section_broken}
+use Rattle.oc_coff_judge.proofs.{JudgedRelocs.{table_faults}, SectionLemmas.{at, limit_part, name_part, section_broken}}
 
 later : (a b : Option Fault) → or_else a b ≡ None → b ≡ None
 later None b e = e

@@ -1,20 +1,15 @@
 -- The sections that lead groups: each has a key of its own.
 use Rattle.std.proofs.Common.{◌≡◌, ℕ, zero, suc, ◌-◌, ◌≤◌, Bool, true, false, cond, eqb, List, length, Option, None, Some, refl, sym, ◌∙◌, ap, arith}
-use Rattle.std.specs.Prelude.{not, ◌&&◌, ◌||◌, nat_eq, nat_le, slice_get}
-use Rattle.std.specs.Option.{option_map, option_map_or, option_and_then}
-use Rattle.std.proofs.lemmas.Bool.{eqb-true, ne_eqb, and_parts}
-use Rattle.std.proofs.lemmas.Bool.Decides.{nat_tests}
-use Rattle.std.proofs.lemmas.Option.{none-some, same_Some, slice_get_within}
+use Rattle.std.specs.{Prelude.{not, ◌&&◌, ◌||◌, nat_eq, nat_le, slice_get}, Option.{option_map, option_map_or, option_and_then}}
+use Rattle.std.proofs.lemmas.{Bool.{eqb-true, ne_eqb, and_parts}, Bool.Decides.{nat_tests}, Option.{none-some, same_Some, slice_get_within}}
 use Rattle.oc_linking.specs.FirstFault.{stage_fault}
 use Rattle.oc_coff.specs.declared.constants.TheConstants.{IMAGE_SYM_SECTION_MAX_EX, IMAGE_COMDAT_SELECT_ANY, IMAGE_COMDAT_SELECT_ASSOCIATIVE, IMAGE_SYM_DEBUG, IMAGE_SYM_CLASS_EXTERNAL}
-use Rattle.oc_coff.specs.declared.section_aux.SectionAux.{SectionAux}
-use Rattle.oc_coff.specs.Tables.{SectionTable, Tables}
+use Rattle.oc_coff.specs.{declared.section_aux.SectionAux.{SectionAux}, Tables.{SectionTable, Tables}}
 use Rattle.oc_coff.specs.Entries.{Entry, entries_in, is_class, is_in, has_section, name_of}
 use Rattle.oc_coff.specs.Comdat.{definition_in, definition_of, is_comdat, key_by, key_in, key_symbol, led_key, section_numbered, selects, symbols_of}
 use Rattle.oc_coff.specs.SymbolFaults.{symbol_stage}
 use Rattle.oc_coff_judge.specs.Led.{leader_by, leader_of}
-use Rattle.oc_coff_judge.proofs.EntryLemmas.{filter_from}
-use Rattle.oc_coff_judge.proofs.SoundSymbols.{is_seen, seen_once}
+use Rattle.oc_coff_judge.proofs.{EntryLemmas.{filter_from}, SoundSymbols.{is_seen, seen_once}}
 
 -- the key of a section is that of the section that leads its group
 pub key_led : (t : Tables) (k : ℕ) → key_in t k ≡ option_and_then (led_key t) (leader_of t k)

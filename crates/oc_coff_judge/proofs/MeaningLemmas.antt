@@ -5,9 +5,7 @@ use Rattle.std.proofs.lemmas.Option.{none-some, same_Some}
 use Rattle.oc_base.specs.declared.format.Word.{Word}
 use Rattle.oc_linking.specs.Fits.{bytes_of}
 use Rattle.oc_neutral.specs.Rows.{Row}
-use Rattle.oc_coff.specs.declared.relocation.Relocation.{Relocation}
-use Rattle.oc_coff.specs.declared.meaning.Meaning.{Meaning}
-use Rattle.oc_coff.specs.Meanings.{meaning_of, meant_by}
+use Rattle.oc_coff.specs.{declared.relocation.Relocation.{Relocation}, declared.meaning.Meaning.{Meaning}, Meanings.{meaning_of, meant_by}}
 use Rattle.oc_coff_judge.specs.Relocs.{row_for, width_of}
 
 pub meant_width : (w : Word) (r : Relocation) (m : Meaning) → meaning_of w r.Type ≡ Some m → width_of w r ≡ bytes_of m.form.width

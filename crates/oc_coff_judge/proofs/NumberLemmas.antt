@@ -1,14 +1,8 @@
 -- The numbers of the symbols, entry by entry.
-use Rattle.oc_coff.specs.Files.{CoffFile, slot_in, tables_in}
+use Rattle.oc_coff.specs.{Files.{CoffFile, slot_in, tables_in}, Tables.{Slot}, Entries.{Entry, entries_in, symbols_from, first_of}, Head.{IsHeaded}}
 use Rattle.std.proofs.Common.{◌≡◌, ℕ, zero, suc, ◌+◌, ◌-◌, ◌<◌, Bool, true, false, cond, eqb, List, [], ◌∷◌, ◌++◌, length, map, drop, get_or, Option, None, refl, sym, ◌∙◌, ap, subst, arith}
-use Rattle.std.specs.Prelude.{slice_get}
-use Rattle.std.specs.List.{AllByRecursion}
-use Rattle.std.proofs.lemmas.Bool.{ne_eqb}
-use Rattle.std.proofs.lemmas.List.{drop_more}
-use Rattle.std.proofs.lemmas.Option.{get_or_from_slice_get}
-use Rattle.oc_coff.specs.Tables.{Slot}
-use Rattle.oc_coff.specs.Entries.{Entry, entries_in, symbols_from, first_of}
-use Rattle.oc_coff.specs.Head.{IsHeaded}
+use Rattle.std.specs.{Prelude.{slice_get}, List.{AllByRecursion}}
+use Rattle.std.proofs.lemmas.{Bool.{ne_eqb}, List.{drop_more}, Option.{get_or_from_slice_get}}
 use Rattle.oc_coff_judge.specs.Numbered.{AreNumbers, entry_by, entry_place}
 use Rattle.oc_coff.proofs.HeadLemmas.{entry_there}
 

@@ -1,24 +1,16 @@
 -- No two carried symbols have one number, so each stands where its number says.
-use Rattle.oc_coff.specs.Files.{CoffFile, tables_in}
+use Rattle.oc_coff.specs.{Files.{CoffFile, tables_in}, Tables.{Tables}, Entries.{Entry, entries_in, name_of}, Sections.{sections_in}}
+use Rattle.oc_coff.specs.{Symbols.{binding_of, symbol_of, symbol_with, symbols_in}, Head.{IsHeaded}}
 use Rattle.std.proofs.Common.{◌≡◌, ℕ, List, length, Option, None, Some, refl, sym, ◌∙◌, ap, arith}
-use Rattle.std.specs.Prelude.{slice_get}
-use Rattle.std.specs.Option.{option_and_then, option_map}
+use Rattle.std.specs.{Prelude.{slice_get}, Option.{option_and_then, option_map}}
 use Rattle.std.proofs.lemmas.Option.{none-some, same_Some}
 use Rattle.oc_linking.specs.declared.terms.Binding.{Binding}
 use Rattle.oc_linking.specs.Parts as parts
-use Rattle.oc_shows.specs.Computed.{position_of}
-use Rattle.oc_shows.specs.Shows.{AreNumbered}
-use Rattle.oc_shelf.proofs.ReadingLaws.CollectedLemmas.{IsFrom, collected-from, collected-ordered}
-use Rattle.oc_shelf.proofs.WritingLaws.MemberLemmas.{member_filter_map}
-use Rattle.oc_coff.specs.Tables.{Tables}
-use Rattle.oc_coff.specs.Entries.{Entry, entries_in, name_of}
-use Rattle.oc_coff.specs.Sections.{sections_in}
-use Rattle.oc_coff.specs.Symbols.{binding_of, symbol_of, symbol_with, symbols_in}
-use Rattle.oc_coff.specs.Head.{IsHeaded}
-use Rattle.oc_coff_judge.specs.Led.{symbol_at}
-use Rattle.oc_coff_judge.proofs.CollectLemmas.{symbols_are}
-use Rattle.oc_coff_judge.proofs.EntryLemmas.{entries_rise, rise_apart}
+use Rattle.oc_shows.specs.{Computed.{position_of}, Shows.{AreNumbered}}
+use Rattle.oc_shelf.proofs.{ReadingLaws.CollectedLemmas.{IsFrom, collected-from, collected-ordered}, WritingLaws.MemberLemmas.{member_filter_map}}
 use Rattle.oc_shelf.proofs.ReadingLaws.NumberedLemmas.{stands_numbered}
+use Rattle.oc_coff_judge.specs.Led.{symbol_at}
+use Rattle.oc_coff_judge.proofs.{CollectLemmas.{symbols_are}, EntryLemmas.{entries_rise, rise_apart}}
 
 -- what a carried symbol has of its entry
 pub record IsCarried (t : Tables) (e : Entry) (s : parts.Symbol) : Type 0 where

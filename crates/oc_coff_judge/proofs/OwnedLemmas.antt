@@ -1,15 +1,10 @@
 -- The first symbols of each section, and what they say.
-use Rattle.oc_coff.specs.Files.{CoffFile, slot_in, tables_in}
-use Rattle.std.proofs.Common.{◌≡◌, ℕ, ◌<◌, Bool, true, cond, length, Option, None, Some, refl, sym, ◌∙◌, ap, subst}
-use Rattle.std.specs.Prelude.{slice_get}
-use Rattle.std.specs.Option.{option_map, option_and_then}
-use Rattle.std.proofs.lemmas.Bool.{true≢false}
-use Rattle.std.proofs.lemmas.Option.{none-some, same_Some}
-use Rattle.oc_coff.specs.declared.constants.TheConstants.{IMAGE_SYM_CLASS_EXTERNAL}
-use Rattle.oc_coff.specs.declared.section_aux.SectionAux.{SectionAux}
-use Rattle.oc_coff.specs.Entries.{Entry, entries_in, is_class, is_in}
-use Rattle.oc_coff.specs.Comdat.{key_symbol, selects, symbols_of}
+use Rattle.oc_coff.specs.{Files.{CoffFile, slot_in, tables_in}, declared.constants.TheConstants.{IMAGE_SYM_CLASS_EXTERNAL}}
+use Rattle.oc_coff.specs.{declared.section_aux.SectionAux.{SectionAux}, Entries.{Entry, entries_in, is_class, is_in}, Comdat.{key_symbol, selects, symbols_of}}
 use Rattle.oc_coff.specs.Head.{IsHeaded}
+use Rattle.std.proofs.Common.{◌≡◌, ℕ, ◌<◌, Bool, true, cond, length, Option, None, Some, refl, sym, ◌∙◌, ap, subst}
+use Rattle.std.specs.{Prelude.{slice_get}, Option.{option_map, option_and_then}}
+use Rattle.std.proofs.lemmas.{Bool.{true≢false}, Option.{none-some, same_Some}}
 use Rattle.oc_coff_judge.specs.Numbered.{entry_by, entry_place, symbol_in}
 use Rattle.oc_coff_judge.proofs.EntryLemmas.{IsEntry, entries_sound, filter_from}
 use Rattle.oc_neutral.proofs.Positions.{each_at}

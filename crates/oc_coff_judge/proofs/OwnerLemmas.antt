@@ -1,26 +1,16 @@
 -- The first two symbols of each section.
-use Rattle.oc_coff.specs.Files.{CoffFile, tables_in}
+use Rattle.oc_coff.specs.{Files.{CoffFile, tables_in}, declared.symbol.SymbolEntry.{SymbolEntry}, declared.constants.TheConstants.{IMAGE_SYM_CLASS_EXTERNAL}}
+use Rattle.oc_coff.specs.{declared.section_header.SectionHeader.{SectionHeader}, Tables.{SectionTable, section_table}}
+use Rattle.oc_coff.specs.Entries.{Entry, entries_in, has_section, is_class, is_in}
+use Rattle.oc_coff.specs.{Comdat.{definition_in, definition_of, is_comdat, key_symbol, own_definition, symbols_of}, Head.{IsHeaded}}
 use Rattle.std.proofs.Common.{◌≡◌, ℕ, zero, suc, ◌+◌, ◌-◌, ◌<◌, ◌≤◌, Bool, true, false, cond, eqb, List, [], ◌∷◌, ◌++◌, length, map, replicate, set, Option, None, Some, refl, sym, ◌∙◌, ap, subst, arith}
-use Rattle.std.specs.Prelude.{not, ◌&&◌, nat_le, filter, is_none, slice_get, slice_index_or}
-use Rattle.std.specs.List.{AllByRecursion}
+use Rattle.std.specs.{Prelude.{not, ◌&&◌, nat_le, filter, is_none, slice_get, slice_index_or}, List.{AllByRecursion}}
 use Rattle.std.specs.Option.{option_and_then, option_map, option_map_or}
-use Rattle.std.proofs.lemmas.Bool.{eqb-true, le-leb, true≢false}
-use Rattle.std.proofs.lemmas.Bool.Decides.{nat_tests}
-use Rattle.std.proofs.lemmas.List.{map-append}
-use Rattle.std.proofs.lemmas.Option.{none-some, same_Some}
+use Rattle.std.proofs.lemmas.{Bool.{eqb-true, le-leb, true≢false}, Bool.Decides.{nat_tests}, List.{map-append}, Option.{none-some, same_Some}}
 use Rattle.oc_shelf.specs.Reading.Slots.{AreSlots}
 use Rattle.oc_shelf.proofs.ReadingLaws.SlotLemmas.{slots_empty, slots_filled}
-use Rattle.oc_coff.specs.declared.symbol.SymbolEntry.{SymbolEntry}
-use Rattle.oc_coff.specs.declared.constants.TheConstants.{IMAGE_SYM_CLASS_EXTERNAL}
-use Rattle.oc_coff.specs.declared.section_header.SectionHeader.{SectionHeader}
-use Rattle.oc_coff.specs.Tables.{SectionTable, section_table}
-use Rattle.oc_coff.specs.Entries.{Entry, entries_in, has_section, is_class, is_in}
-use Rattle.oc_coff.specs.Comdat.{definition_in, definition_of, is_comdat, key_symbol, own_definition, symbols_of}
-use Rattle.oc_coff.specs.Head.{IsHeaded}
-use Rattle.oc_coff_judge.specs.Judged.{firsts_with, is_owner, owner_among, seconds_with}
-use Rattle.oc_coff_judge.specs.Numbered.{AreNumbers, AreOwners, entry_by, symbol_in}
-use Rattle.oc_coff_judge.proofs.NumberLemmas.{IsPassing, follow_of, passing_end, passing_more, passing_none, slots_of}
-use Rattle.oc_coff_judge.proofs.EntryLemmas.{number_is}
+use Rattle.oc_coff_judge.specs.{Judged.{firsts_with, is_owner, owner_among, seconds_with}, Numbered.{AreNumbers, AreOwners, entry_by, symbol_in}}
+use Rattle.oc_coff_judge.proofs.{NumberLemmas.{IsPassing, follow_of, passing_end, passing_more, passing_none, slots_of}, EntryLemmas.{number_is}}
 
 -- the first and the second symbols are those of these numbers
 pub record IsOwning (file : CoffFile) (numbers : List ℕ) (firsts seconds : List (Option ℕ)) : Type 0 where

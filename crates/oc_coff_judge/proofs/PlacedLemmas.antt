@@ -1,21 +1,15 @@
 -- The positions of sections, by their numbers.
 use Rattle.std.proofs.Common.{◌≡◌, ℕ, suc, ◌+◌, ◌-◌, ◌<◌, ◌≤◌, Bool, true, false, cond, List, [], ◌∷◌, length, Option, None, Some, refl, sym, ◌∙◌, ap, subst, arith}
-use Rattle.std.specs.Prelude.{nat_eq, nat_le, slice_get, slice_index_or}
-use Rattle.std.specs.List.{AllByRecursion}
-use Rattle.std.specs.Option.{option_and_then, option_map}
-use Rattle.std.proofs.lemmas.Bool.{eqb-true, ne_eqb}
-use Rattle.std.proofs.lemmas.Option.{none-some, same_Some}
+use Rattle.std.specs.{Prelude.{nat_eq, nat_le, slice_get, slice_index_or}, List.{AllByRecursion}, Option.{option_and_then, option_map}}
+use Rattle.std.proofs.lemmas.{Bool.{eqb-true, ne_eqb}, Option.{none-some, same_Some}}
 use Rattle.oc_linking.specs.declared.terms.Kind.{Kind}
 use Rattle.oc_linking.specs.declared.terms.Value.TheVariants as value
-use Rattle.oc_coff.specs.declared.symbol.SymbolEntry.{SymbolEntry}
-use Rattle.oc_coff.specs.Symbols.{value_of}
-use Rattle.oc_linking.specs.Parts as parts
-use Rattle.oc_shelf.specs.Reading.Slots.{AreSlots}
-use Rattle.oc_shelf.proofs.ReadingLaws.CollectedLemmas.{IsFrom, collected-all, collected-from}
-use Rattle.oc_shelf.proofs.ReadingLaws.SlotLemmas.{slot_anywhere}
-use Rattle.oc_coff.specs.declared.constants.TheConstants.{IMAGE_SYM_SECTION_MAX_EX}
+use Rattle.oc_coff.specs.{declared.symbol.SymbolEntry.{SymbolEntry}, Symbols.{value_of}, declared.constants.TheConstants.{IMAGE_SYM_SECTION_MAX_EX}}
 use Rattle.oc_coff.specs.Tables.{SectionTable, Tables}
 use Rattle.oc_coff.specs.Sections.{Carried, carried_of, is_stored, kind_in, position_from, position_of, section_of, sections_in}
+use Rattle.oc_linking.specs.Parts as parts
+use Rattle.oc_shelf.specs.Reading.Slots.{AreSlots}
+use Rattle.oc_shelf.proofs.{ReadingLaws.CollectedLemmas.{IsFrom, collected-all, collected-from}, ReadingLaws.SlotLemmas.{slot_anywhere}}
 use Rattle.oc_coff_judge.specs.Led.{carried_at, section_at}
 use Rattle.oc_coff_judge.proofs.CollectLemmas.{sections_are}
 

@@ -1,22 +1,14 @@
 -- Sections, judged one after the other, with the sums that they are worth.
-use Rattle.oc_coff.specs.Files.{CoffFile, tables_in}
-use Rattle.std.proofs.Common.{◌≡◌, ℕ, zero, suc, ◌+◌, ◌≤◌, false, cond, List, [], ◌∷◌, ◌++◌, Option, None, Some, refl, sym, ◌∙◌, ap, subst, arith}
-use Rattle.std.specs.Prelude.{is_none, nat_lt, slice_get}
-use Rattle.std.specs.List.{enumerate_from}
-use Rattle.std.specs.Option.{is_some, option_map, option_map_or}
-use Rattle.std.proofs.lemmas.Bool.Decides.{nat_tests}
-use Rattle.std.proofs.lemmas.Option.{none-some}
-use Rattle.oc_base.specs.declared.code.Code.TheVariants.{BadName, LimitBytes, LimitSection, LimitSum}
-use Rattle.oc_base.specs.declared.fault.Fault.{Fault}
-use Rattle.oc_linking.specs.declared.terms.Kind.{Kind}
-use Rattle.oc_linking.specs.FirstFault.{Condition, first_broken}
-use Rattle.oc_linking.specs.Numbers.{first_upto, or_else}
-use Rattle.oc_shelf.specs.Reading.Sums.{sum_upto}
-use Rattle.oc_shelf.proofs.ReadingLaws.StageLemmas.{all_hold, first_broken-append, sum_more}
-use Rattle.oc_coff.specs.declared.section_header.SectionHeader.{SectionHeader}
-use Rattle.oc_coff.specs.Tables.{SectionTable, section_table}
+use Rattle.oc_coff.specs.{Files.{CoffFile, tables_in}, declared.section_header.SectionHeader.{SectionHeader}, Tables.{SectionTable, section_table}}
 use Rattle.oc_coff.specs.Sections.{kind_in}
 use Rattle.oc_coff.specs.SectionFaults.{Numbered, carried_bytes, carried_size, header_place, limit_conditions, raw_conditions, section_conditions, section_fault, table_conditions, worth_by}
+use Rattle.std.proofs.Common.{◌≡◌, ℕ, zero, suc, ◌+◌, ◌≤◌, false, cond, List, [], ◌∷◌, ◌++◌, Option, None, Some, refl, sym, ◌∙◌, ap, subst, arith}
+use Rattle.std.specs.{Prelude.{is_none, nat_lt, slice_get}, List.{enumerate_from}, Option.{is_some, option_map, option_map_or}}
+use Rattle.std.proofs.lemmas.{Bool.Decides.{nat_tests}, Option.{none-some}}
+use Rattle.oc_base.specs.{declared.code.Code.TheVariants.{BadName, LimitBytes, LimitSection, LimitSum}, declared.fault.Fault.{Fault}}
+use Rattle.oc_linking.specs.{declared.terms.Kind.{Kind}, FirstFault.{Condition, first_broken}, Numbers.{first_upto, or_else}}
+use Rattle.oc_shelf.specs.Reading.Sums.{sum_upto}
+use Rattle.oc_shelf.proofs.ReadingLaws.StageLemmas.{all_hold, first_broken-append, sum_more}
 use Rattle.oc_coff_judge.specs.Judged.{AreSums, copies_of, forms_of, limits_by, name_of_header, section_fault_of, size_by, stored_by}
 
 enumerated : {X : Type 0} (n : ℕ) (xs : List X) (i : ℕ) → slice_get (enumerate_from n xs) i ≡ option_map (λ (x : X). (n + i, x)) (slice_get xs i)

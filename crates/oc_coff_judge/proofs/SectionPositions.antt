@@ -1,19 +1,13 @@
 -- Where carried sections stand, section by section.
 use Rattle.std.proofs.Common.{◌≡◌, ℕ, zero, suc, ◌+◌, ◌-◌, ◌<◌, ◌≤◌, Bool, true, false, cond, List, [], ◌∷◌, ◌++◌, length, replicate, Option, None, Some, refl, sym, ◌∙◌, ap, subst, arith}
 use Rattle.std.specs.Prelude.{nat_le, is_some, slice_get, slice_index_or}
-use Rattle.std.proofs.lemmas.Bool.{eq-eqb, ne_eqb, true≢false, le-leb}
-use Rattle.std.proofs.lemmas.Option.{none-some, same_Some}
+use Rattle.std.proofs.lemmas.{Bool.{eq-eqb, ne_eqb, true≢false, le-leb}, Option.{none-some, same_Some}}
 use Rattle.oc_linking.specs.Parts.{Section}
-use Rattle.oc_shelf.specs.Reading.Collected.{collected, with_option}
-use Rattle.oc_shelf.specs.Reading.Slots.{AreSlots}
-use Rattle.oc_shelf.proofs.ReadingLaws.CollectedLemmas.{IsFrom, collected-at, collected-more, collected-ordered}
-use Rattle.oc_shelf.proofs.ReadingLaws.SlotLemmas.{slots_pushed}
-use Rattle.oc_coff.specs.declared.constants.TheConstants.{IMAGE_SYM_SECTION_MAX_EX}
-use Rattle.oc_coff.specs.Tables.{Tables}
-use Rattle.oc_coff.specs.Sections.{position_from, position_of, sections_in}
+use Rattle.oc_shelf.specs.{Reading.Collected.{collected, with_option}, Reading.Slots.{AreSlots}}
+use Rattle.oc_shelf.proofs.{ReadingLaws.CollectedLemmas.{IsFrom, collected-at, collected-more, collected-ordered}, ReadingLaws.SlotLemmas.{slots_pushed}}
+use Rattle.oc_coff.specs.{declared.constants.TheConstants.{IMAGE_SYM_SECTION_MAX_EX}, Tables.{Tables}, Sections.{position_from, position_of, sections_in}}
 use Rattle.oc_coff_judge.specs.Led.{section_at}
-use Rattle.oc_coff_judge.proofs.CollectLemmas.{sections_are}
-use Rattle.oc_coff_judge.proofs.PlacedLemmas.{section_number, from_at, section_from}
+use Rattle.oc_coff_judge.proofs.{CollectLemmas.{sections_are}, PlacedLemmas.{section_number, from_at, section_from}}
 use mir.Val.{bool_byte}
 
 -- the first section of a number

@@ -1,20 +1,12 @@
 -- What a symbol has that has no fault, and that two symbols which other files see differ in their names.
 use Rattle.std.proofs.Common.{◌≡◌, ℕ, zero, suc, ◌+◌, ◌<◌, inl, inr, Bool, true, false, cond, List, [], ◌∷◌, ◌++◌, length, take, Option, None, Some, refl, sym, ◌∙◌, ap, arith}
-use Rattle.std.specs.Prelude.{not, ◌&&◌, ◌||◌, nat_eq, nat_lt, bytes_eq, is_none, is_some, slice_get}
-use Rattle.std.specs.List.{list_any}
-use Rattle.std.specs.Option.{option_map_or}
-use Rattle.std.proofs.lemmas.Bool.{cases_eq, cases_lt, true≢false, not-false}
-use Rattle.std.proofs.lemmas.Option.{none-some, same_Some, slice_get_within}
-use Rattle.std.proofs.lemmas.Slice.Eq.{bytes_eq-Decides}
+use Rattle.std.specs.{Prelude.{not, ◌&&◌, ◌||◌, nat_eq, nat_lt, bytes_eq, is_none, is_some, slice_get}, List.{list_any}, Option.{option_map_or}}
+use Rattle.std.proofs.lemmas.{Bool.{cases_eq, cases_lt, true≢false, not-false}, Option.{none-some, same_Some, slice_get_within}, Slice.Eq.{bytes_eq-Decides}}
 use Rattle.oc_base.specs.declared.code.Code.TheVariants.{BadSymbol, BadName, SymbolKind, SymbolPastEnd}
 use Rattle.oc_linking.specs.FirstFault.{Condition, fault_of, first_broken, stage_fault}
 use Rattle.oc_shelf.proofs.ReadingLaws.StageLemmas.{all_hold, clean_at, clean_both}
-use Rattle.oc_coff.specs.declared.constants.TheConstants.{IMAGE_SYM_DEBUG, IMAGE_SYM_CLASS_EXTERNAL, IMAGE_SYM_CLASS_WEAK_EXTERNAL}
-use Rattle.oc_coff.specs.Tables.{Tables}
-use Rattle.oc_coff.specs.Names.{is_nothing, symbol_name}
-use Rattle.oc_coff.specs.Entries.{Entry, entries_in, is_class, name_of}
-use Rattle.oc_coff.specs.Sections.{sections_in}
-use Rattle.oc_coff.specs.Symbols.{tagged_by}
+use Rattle.oc_coff.specs.{declared.constants.TheConstants.{IMAGE_SYM_DEBUG, IMAGE_SYM_CLASS_EXTERNAL, IMAGE_SYM_CLASS_WEAK_EXTERNAL}, Tables.{Tables}}
+use Rattle.oc_coff.specs.{Names.{is_nothing, symbol_name}, Entries.{Entry, entries_in, is_class, name_of}, Sections.{sections_in}, Symbols.{tagged_by}}
 use Rattle.oc_coff.specs.SymbolFaults.{can_be_tagged, is_external, is_known, is_named, is_no_section, is_past_end, is_static, is_uncarried, is_undefined, name_conditions, symbol_conditions, symbol_fault, symbol_stage, tag_conditions}
 
 -- what symbol e has that has no fault, where those are the ones before it

@@ -1,18 +1,11 @@
 -- The entries that are symbols.
-use Rattle.oc_coff.specs.Files.{CoffFile, tables_in}
+use Rattle.oc_coff.specs.{Files.{CoffFile, tables_in}, Entries.{Entry, entries_in, entry_numbered}, Symbols.{tag_of, tagged_by}, Head.{IsHeaded}}
 use Rattle.std.proofs.Common.{◌≡◌, ℕ, ◌<◌, ◌≤◌, Bool, true, false, cond, eqb, ◌||◌, List, [], ◌∷◌, ◌++◌, length, map, get_or, replicate, set, Option, None, Some, refl, sym, ◌∙◌, ap, subst, arith}
-use Rattle.std.specs.Prelude.{find, nat_eq, slice_get}
-use Rattle.std.specs.Option.{is_some, option_and_then, option_map}
-use Rattle.std.proofs.lemmas.Bool.{eqb-true}
-use Rattle.std.proofs.lemmas.List.{map-append}
-use Rattle.std.proofs.lemmas.Option.{none-some, same_Some, slice_get-get_or, slice_get-map}
+use Rattle.std.specs.{Prelude.{find, nat_eq, slice_get}, Option.{is_some, option_and_then, option_map}}
+use Rattle.std.proofs.lemmas.{Bool.{eqb-true}, List.{map-append}, Option.{none-some, same_Some, slice_get-get_or, slice_get-map}}
 use Rattle.oc_shelf.specs.Reading.Slots.{AreSlots}
 use Rattle.oc_shelf.proofs.ReadingLaws.SlotLemmas.{slot_anywhere, slots_empty, slots_filled, slots_same}
-use Rattle.oc_coff.specs.Entries.{Entry, entries_in, entry_numbered}
-use Rattle.oc_coff.specs.Symbols.{tag_of, tagged_by}
-use Rattle.oc_coff_judge.specs.Found.{IsTagOf, start_of}
-use Rattle.oc_coff.specs.Head.{IsHeaded}
-use Rattle.oc_coff_judge.specs.Numbered.{AreNumbers, entry_by}
+use Rattle.oc_coff_judge.specs.{Found.{IsTagOf, start_of}, Numbered.{AreNumbers, entry_by}}
 use Rattle.oc_coff_judge.proofs.EntryLemmas.{IsEntry, entries_sound, find_from, number_is}
 use Rattle.oc_neutral.proofs.Positions.{each_at}
 

@@ -1,34 +1,19 @@
 -- Where carried symbols stand, symbol by symbol.
-use Rattle.oc_coff.specs.declared.form.Shape.{Shape}
-use Rattle.oc_coff.specs.declared.form.Shape.TheVariants.{Usual, Big}
-use Rattle.oc_coff.specs.Forms.{symbol_size}
-use Rattle.oc_coff.specs.FileHeader.{file_header_of}
-use Rattle.oc_coff.specs.Files.{CoffFile, tables_in}
+use Rattle.oc_coff.specs.{declared.form.Shape.{Shape}, declared.form.Shape.TheVariants.{Usual, Big}, Forms.{symbol_size}, FileHeader.{file_header_of}}
+use Rattle.oc_coff.specs.{Files.{CoffFile, tables_in}, Tables.{Slot, Tables}, Entries.{Entry, entries_in, entry_numbered, symbols_from}, Sections.{sections_in}}
+use Rattle.oc_coff.specs.{Symbols.{symbol_of, symbols_in}, Head.{IsHeaded}}
 use Rattle.std.proofs.Common.{◌≡◌, ℕ, zero, suc, ◌+◌, ◌<◌, ◌≤◌, Bool, true, false, cond, eqb, List, [], ◌∷◌, ◌++◌, length, take, set, get_or, Option, None, Some, refl, sym, ◌∙◌, ap, subst, arith, ◌*◌}
-use Rattle.std.specs.Prelude.{nat_eq, find, is_some, slice_get}
-use Rattle.std.specs.Option.{option_and_then, option_map}
-use Rattle.std.proofs.lemmas.Bool.{eqb-true, ne_eqb, true≢false}
-use Rattle.std.proofs.lemmas.Option.{none-some, same_Some, slice_get-map, slice_get-get_or, slice_get_within}
+use Rattle.std.specs.{Prelude.{nat_eq, find, is_some, slice_get}, Option.{option_and_then, option_map}}
+use Rattle.std.proofs.lemmas.{Bool.{eqb-true, ne_eqb, true≢false}, Option.{none-some, same_Some, slice_get-map, slice_get-get_or, slice_get_within}}
 use Rattle.oc_linking.specs.Numbers.{or_else}
 use Rattle.oc_linking.specs.Parts as parts
 use Rattle.oc_shows.specs.Computed.{position_of}
-use Rattle.oc_shelf.specs.Reading.Collected.{collected}
-use Rattle.oc_shelf.specs.Reading.Slots.{AreSlots}
-use Rattle.oc_shelf.proofs.ReadingLaws.CollectedLemmas.{collected-at, collected-none, collected-some}
-use Rattle.oc_shelf.proofs.ReadingLaws.SlotLemmas.{slots_filled, slots_same}
-use Rattle.oc_coff.specs.Tables.{Slot, Tables}
-use Rattle.oc_coff.specs.Entries.{Entry, entries_in, entry_numbered, symbols_from}
-use Rattle.oc_coff.specs.Sections.{sections_in}
-use Rattle.oc_coff.specs.Symbols.{symbol_of, symbols_in}
-use Rattle.oc_coff.specs.Head.{IsHeaded}
-use Rattle.oc_coff_judge.specs.Numbered.{AreNumbers, entry_by}
-use Rattle.oc_coff_judge.specs.Tagged.{carried_position}
-use Rattle.oc_coff_judge.specs.Led.{symbol_at}
-use Rattle.oc_coff_judge.proofs.CollectLemmas.{symbols_are}
-use Rattle.oc_coff_judge.proofs.EntryLemmas.{Rise, entries_rise, number_is, rise_apart}
-use Rattle.oc_coff.proofs.HeadLemmas.{headed, length-entries}
-use Rattle.oc_coff_judge.proofs.NumberedSymbols.{symbols_numbered}
+use Rattle.oc_shelf.specs.{Reading.Collected.{collected}, Reading.Slots.{AreSlots}}
+use Rattle.oc_shelf.proofs.{ReadingLaws.CollectedLemmas.{collected-at, collected-none, collected-some}, ReadingLaws.SlotLemmas.{slots_filled, slots_same}}
 use Rattle.oc_shelf.proofs.ReadingLaws.NumberedLemmas.{one_position, stands_numbered}
+use Rattle.oc_coff_judge.specs.{Numbered.{AreNumbers, entry_by}, Tagged.{carried_position}, Led.{symbol_at}}
+use Rattle.oc_coff_judge.proofs.{CollectLemmas.{symbols_are}, EntryLemmas.{Rise, entries_rise, number_is, rise_apart}, NumberedSymbols.{symbols_numbered}}
+use Rattle.oc_coff.proofs.HeadLemmas.{headed, length-entries}
 
 -- ... entries by number
 

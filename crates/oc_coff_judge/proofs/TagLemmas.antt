@@ -1,21 +1,13 @@
 -- The symbols that weak externals tag.
-use Rattle.oc_coff.specs.Files.{CoffFile, tables_in}
+use Rattle.oc_coff.specs.{Files.{CoffFile, tables_in}, declared.constants.TheConstants.{IMAGE_SYM_CLASS_WEAK_EXTERNAL}, Tables.{Tables}}
+use Rattle.oc_coff.specs.{Entries.{Entry, entries_in, entry_numbered, is_class}, Sections.{sections_in}, Symbols.{tag_of, tagged_by}}
+use Rattle.oc_coff.specs.{SymbolFaults.{can_be_tagged, symbol_stage}, Head.{IsHeaded}}
 use Rattle.std.proofs.Common.{◌≡◌, ℕ, ◌<◌, true, false, length, Option, None, Some, refl, sym, ◌∙◌, ap, subst}
-use Rattle.std.specs.Prelude.{nat_eq, slice_get}
-use Rattle.std.specs.Option.{option_and_then, option_map_or}
+use Rattle.std.specs.{Prelude.{nat_eq, slice_get}, Option.{option_and_then, option_map_or}}
 use Rattle.std.proofs.lemmas.Bool.{eqb-true, true≢false}
 use Rattle.oc_linking.specs.FirstFault.{stage_fault}
-use Rattle.oc_coff.specs.declared.constants.TheConstants.{IMAGE_SYM_CLASS_WEAK_EXTERNAL}
-use Rattle.oc_coff.specs.Tables.{Tables}
-use Rattle.oc_coff.specs.Entries.{Entry, entries_in, entry_numbered, is_class}
-use Rattle.oc_coff.specs.Sections.{sections_in}
-use Rattle.oc_coff.specs.Symbols.{tag_of, tagged_by}
-use Rattle.oc_coff.specs.SymbolFaults.{can_be_tagged, symbol_stage}
-use Rattle.oc_coff.specs.Head.{IsHeaded}
-use Rattle.oc_coff_judge.specs.Numbered.{entry_by}
-use Rattle.oc_coff_judge.specs.Tagged.{IsSymbolEntry}
-use Rattle.oc_coff_judge.proofs.EntryLemmas.{IsEntry, entries_sound, find_from}
-use Rattle.oc_coff_judge.proofs.SoundSymbols.{sound_symbol}
+use Rattle.oc_coff_judge.specs.{Numbered.{entry_by}, Tagged.{IsSymbolEntry}}
+use Rattle.oc_coff_judge.proofs.{EntryLemmas.{IsEntry, entries_sound, find_from}, SoundSymbols.{sound_symbol}}
 use Rattle.oc_neutral.proofs.Positions.{each_at}
 
 module _ (file : CoffFile) (head : IsHeaded file) (clean : stage_fault (symbol_stage (tables_in file)) ≡ None) where

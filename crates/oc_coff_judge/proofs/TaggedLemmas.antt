@@ -1,19 +1,11 @@
 -- What weak externals tag, symbol by symbol.
-use Rattle.oc_coff.specs.Files.{CoffFile, tables_in}
-use Rattle.std.proofs.Common.{◌≡◌, ℕ, zero, suc, ◌+◌, ◌<◌, inl, inr, Bool, true, false, cond, List, [], ◌∷◌, length, map, take, get_or, set, Option, None, Some, refl, sym, ◌∙◌, ap, arith}
-use Rattle.std.specs.Prelude.{◌&&◌, ◌||◌, nat_eq, nat_lt, is_some, slice_index_or}
-use Rattle.std.specs.List.{list_any}
-use Rattle.std.specs.Option.{option_map_or}
-use Rattle.std.proofs.Math.Seq.{take-length}
-use Rattle.std.proofs.lemmas.Bool.{cases_eq, eq-eqb, ne_eqb}
-use Rattle.std.proofs.lemmas.Bool.Decides.{nat_tests}
-use Rattle.std.proofs.lemmas.List.{get_or-set_same, length-set}
-use Rattle.std.proofs.lemmas.List.Folds.{list_any_more}
-use Rattle.oc_coff.specs.declared.constants.TheConstants.{IMAGE_SYM_CLASS_WEAK_EXTERNAL}
-use Rattle.oc_coff.specs.Entries.{Entry, is_class}
+use Rattle.oc_coff.specs.{Files.{CoffFile, tables_in}, declared.constants.TheConstants.{IMAGE_SYM_CLASS_WEAK_EXTERNAL}, Entries.{Entry, is_class}}
 use Rattle.oc_coff.specs.Symbols.{tag_of, tags}
-use Rattle.oc_coff_judge.specs.Numbered.{AreNumbers, entry_by}
-use Rattle.oc_coff_judge.specs.Tagged.{AreTagged, marked, tag_by}
+use Rattle.std.proofs.Common.{◌≡◌, ℕ, zero, suc, ◌+◌, ◌<◌, inl, inr, Bool, true, false, cond, List, [], ◌∷◌, length, map, take, get_or, set, Option, None, Some, refl, sym, ◌∙◌, ap, arith}
+use Rattle.std.specs.{Prelude.{◌&&◌, ◌||◌, nat_eq, nat_lt, is_some, slice_index_or}, List.{list_any}, Option.{option_map_or}}
+use Rattle.std.proofs.Math.Seq.{take-length}
+use Rattle.std.proofs.lemmas.{Bool.{cases_eq, eq-eqb, ne_eqb}, Bool.Decides.{nat_tests}, List.{get_or-set_same, length-set}, List.Folds.{list_any_more}}
+use Rattle.oc_coff_judge.specs.{Numbered.{AreNumbers, entry_by}, Tagged.{AreTagged, marked, tag_by}}
 
 -- the slots have something exactly for the entries that the first symbols tag
 pub record AreMarked (file : CoffFile) (numbers : List ℕ) (i : ℕ) (slots : List (Option ℕ)) : Type 0 where

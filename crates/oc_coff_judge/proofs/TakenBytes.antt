@@ -1,23 +1,15 @@
 -- The fields of relocation entries, taken one after the other.
-use Rattle.oc_coff.specs.Files.{CoffFile, tables_in}
+use Rattle.oc_coff.specs.{Files.{CoffFile, tables_in}, declared.relocation.Relocation.{Relocation}}
 use Rattle.std.proofs.Common.{◌≡◌, ℕ, ◌+◌, ◌*◌, ◌<◌, ◌≤◌, Bool, true, false, cond, List, Option, None, Some, refl, sym, ap, subst, arith}
-use Rattle.std.specs.Prelude.{◌||◌, is_none, length, nat_lt, not}
-use Rattle.std.specs.Option.{option_map, option_map_or}
-use Rattle.std.proofs.lemmas.Bool.{true≢false}
-use Rattle.std.proofs.lemmas.Bool.Decides.{nat_tests}
+use Rattle.std.specs.{Prelude.{◌||◌, is_none, length, nat_lt, not}, Option.{option_map, option_map_or}}
+use Rattle.std.proofs.lemmas.{Bool.{true≢false}, Bool.Decides.{nat_tests}}
 use Rattle.oc_base.specs.declared.format.Word.{Word}
-use Rattle.oc_linking.specs.declared.terms.Width.{Width}
-use Rattle.oc_linking.specs.declared.terms.Width.TheVariants.{One, Two, Four, Eight}
-use Rattle.oc_linking.specs.Fits.{bytes_of}
-use Rattle.oc_linking.specs.FirstFault.{first_broken}
+use Rattle.oc_linking.specs.{declared.terms.Width.{Width}, declared.terms.Width.TheVariants.{One, Two, Four, Eight}, Fits.{bytes_of}, FirstFault.{first_broken}}
 use Rattle.oc_linking.specs.Numbers.{first_upto}
 use Rattle.oc_neutral.specs.Rows.{Row}
 use Rattle.oc_shelf.specs.Reading.Bitmaps.{has, is_between, room}
-use Rattle.oc_shelf.proofs.ReadingLaws.BitmapLemmas.{bytes_more, bytes_same}
-use Rattle.oc_shelf.proofs.ReadingLaws.StageLemmas.{all_hold}
-use Rattle.oc_coff.specs.declared.relocation.Relocation.{Relocation}
-use Rattle.oc_coff_judge.specs.declared.aims.AimKind.{AimKind}
-use Rattle.oc_coff_judge.specs.declared.relocs.Table.{Table}
+use Rattle.oc_shelf.proofs.{ReadingLaws.BitmapLemmas.{bytes_more, bytes_same}, ReadingLaws.StageLemmas.{all_hold}}
+use Rattle.oc_coff_judge.specs.{declared.aims.AimKind.{AimKind}, declared.relocs.Table.{Table}}
 use Rattle.oc_coff_judge.specs.Relocs.{AreTaken, bytes_for, entry_fault, own_conditions, reloc_of, row_for, span_of, stored_size, width_of}
 
 -- the entries so far have no fault, and the bytes taken are those of their fields

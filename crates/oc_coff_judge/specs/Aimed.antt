@@ -1,18 +1,11 @@
 -- What the symbols of relocation entries stand for, as far as judging asks (PE/COFF, "COFF Relocations"; our profile).
-use Rattle.std.specs.Prelude.{ℕ, if◌then◌else◌, List, length, map, Option, Some, None}
-use Rattle.std.specs.List.{range_with_len}
-use Rattle.std.specs.Option.{option_and_then}
-use Rattle.oc_linking.specs.declared.terms.Value.{Value}
+use Rattle.std.specs.{Prelude.{ℕ, if◌then◌else◌, List, length, map, Option, Some, None}, List.{range_with_len}, Option.{option_and_then}}
+use Rattle.oc_linking.specs.{declared.terms.Value.{Value}, declared.terms.Binding.{Binding}}
 use Rattle.oc_linking.specs.declared.terms.Value.TheVariants as value
-use Rattle.oc_linking.specs.declared.terms.Binding.{Binding}
 use Rattle.oc_neutral.specs.TargetRelocations.{is_homeless, is_local_number}
-use Rattle.oc_coff.specs.Tables.{Tables}
-use Rattle.oc_coff.specs.Entries.{Entry, entries_in, entry_numbered, name_of}
-use Rattle.oc_coff.specs.Sections.{sections_in}
-use Rattle.oc_coff.specs.Symbols.{binding_of, is_own, value_of}
+use Rattle.oc_coff.specs.{Tables.{Tables}, Entries.{Entry, entries_in, entry_numbered, name_of}, Sections.{sections_in}, Symbols.{binding_of, is_own, value_of}}
 use Rattle.oc_coff.specs.Targets as targets
-use Rattle.oc_coff_judge.specs.declared.aims.AimKind.{AimKind}
-use Rattle.oc_coff_judge.specs.declared.aims.AimKind.TheVariants.{Nothing, Home, Homeless}
+use Rattle.oc_coff_judge.specs.{declared.aims.AimKind.{AimKind}, declared.aims.AimKind.TheVariants.{Nothing, Home, Homeless}}
 
 -- a target, where a field can have it
 abbrev pub face_of : Option targets.Aim → AimKind

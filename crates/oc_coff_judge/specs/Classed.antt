@@ -1,24 +1,16 @@
 -- Symbols by the conditions that each meets by itself (PE/COFF; our profile).
-use Rattle.oc_coff.specs.Files.{CoffFile, tables_in}
-use Rattle.oc_coff.specs.Forms.{symbol_size}
-use Rattle.std.specs.Prelude.{ℕ, ◌+◌, ◌*◌, Bool, not, ◌&&◌, nat_eq, nat_lt, false, if◌then◌else◌, List, [], ◌∷◌, ◌++◌, length, map, is_none, Option, Some, None}
-use Rattle.std.specs.Option.{option_map_or}
-use Rattle.oc_base.specs.declared.code.Code.{Code}
-use Rattle.oc_base.specs.declared.code.Code.TheVariants.{BadSymbol, BadName, DuplicateName, SymbolKind, SymbolPastEnd}
-use Rattle.oc_base.specs.declared.fault.Phase.TheVariants.{Symbol}
-use Rattle.oc_base.specs.declared.fault.Fault.{Fault}
-use Rattle.oc_linking.specs.FirstFault.{Condition}
-use Rattle.oc_strings.specs.declared.repeats.Repeat.{Repeat}
-use Rattle.oc_strings.specs.Repeats.{NameList}
+use Rattle.oc_coff.specs.{Files.{CoffFile, tables_in}, Forms.{symbol_size}}
 use Rattle.oc_coff.specs.declared.constants.TheConstants.{IMAGE_SYM_CLASS_EXTERNAL, IMAGE_SYM_CLASS_WEAK_EXTERNAL, IMAGE_SYM_DEBUG}
-use Rattle.oc_coff.specs.declared.symbol.SymbolEntry.{SymbolEntry}
-use Rattle.oc_coff.specs.Tables.{SectionTable, Tables}
-use Rattle.oc_coff.specs.Comdat.{section_numbered}
-use Rattle.oc_coff.specs.Names.{is_nothing, symbol_name}
-use Rattle.oc_coff.specs.Entries.{Entry, entries_in, is_class, name_of}
-use Rattle.oc_coff.specs.Sections.{sections_in}
+use Rattle.oc_coff.specs.{declared.symbol.SymbolEntry.{SymbolEntry}, Tables.{SectionTable, Tables}, Comdat.{section_numbered}, Names.{is_nothing, symbol_name}}
+use Rattle.oc_coff.specs.{Entries.{Entry, entries_in, is_class, name_of}, Sections.{sections_in}}
 use Rattle.oc_coff.specs.SymbolFaults.{can_be_tagged, is_external, is_known, is_no_section, is_past_end, is_static, is_uncarried, is_undefined}
 use Rattle.oc_coff.specs.Symbols.{tagged_by}
+use Rattle.std.specs.Prelude.{ℕ, ◌+◌, ◌*◌, Bool, not, ◌&&◌, nat_eq, nat_lt, false, if◌then◌else◌, List, [], ◌∷◌, ◌++◌, length, map, is_none, Option, Some, None}
+use Rattle.std.specs.Option.{option_map_or}
+use Rattle.oc_base.specs.{declared.code.Code.{Code}, declared.code.Code.TheVariants.{BadSymbol, BadName, DuplicateName, SymbolKind, SymbolPastEnd}}
+use Rattle.oc_base.specs.{declared.fault.Phase.TheVariants.{Symbol}, declared.fault.Fault.{Fault}}
+use Rattle.oc_linking.specs.FirstFault.{Condition}
+use Rattle.oc_strings.specs.{declared.repeats.Repeat.{Repeat}, Repeats.{NameList}}
 use Rattle.oc_coff_judge.specs.Numbered.{entry_by}
 
 -- a fault of symbol number j

@@ -1,15 +1,9 @@
 -- What is found in a file before its symbols are judged (PE/COFF; our profile).
-use Rattle.oc_coff.specs.Files.{CoffFile, tables_in}
-use Rattle.std.specs.Prelude.{◌≡◌, ℕ, ◌+◌, ◌<◌, if◌then◌else◌, List, length, Option, Some, None}
-use Rattle.std.specs.Option.{is_some}
-use Rattle.oc_shelf.specs.Reading.Slots.{AreSlots}
-use Rattle.oc_coff.specs.Tables.{Tables}
-use Rattle.oc_coff.specs.Entries.{entries_in, entry_numbered}
-use Rattle.oc_coff.specs.Sections.{position_of, sections_in}
+use Rattle.oc_coff.specs.{Files.{CoffFile, tables_in}, Tables.{Tables}, Entries.{entries_in, entry_numbered}, Sections.{position_of, sections_in}}
 use Rattle.oc_coff.specs.Symbols.{tagged_by}
-use Rattle.oc_coff_judge.specs.declared.found.Found.{Found}
-use Rattle.oc_coff_judge.specs.Numbered.{AreNumbers, AreOwners, entry_by}
-use Rattle.oc_coff_judge.specs.Tagged.{AreTagged}
+use Rattle.std.specs.{Prelude.{◌≡◌, ℕ, ◌+◌, ◌<◌, if◌then◌else◌, List, length, Option, Some, None}, Option.{is_some}}
+use Rattle.oc_shelf.specs.Reading.Slots.{AreSlots}
+use Rattle.oc_coff_judge.specs.{declared.found.Found.{Found}, Numbered.{AreNumbers, AreOwners, entry_by}, Tagged.{AreTagged}}
 
 -- the number of an entry that is a symbol, and no auxiliary entry
 abbrev pub start_of : Tables → ℕ → Option ℕ

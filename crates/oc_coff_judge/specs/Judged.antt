@@ -1,24 +1,15 @@
 -- What is computed of a file while it is judged (PE/COFF; our profile).
-use Rattle.oc_coff.specs.Files.{CoffFile, tables_in}
-use Rattle.std.specs.Prelude.{◌≡◌, ℕ, ◌+◌, ◌≤◌, Bool, not, ◌&&◌, nat_eq, nat_le, nat_lt, if◌then◌else◌, is_none, List, [], ◌∷◌, length, map, slice_get, slice_index_or, slice_set, Option, Some, None}
-use Rattle.std.specs.Option.{is_some, option_map, option_map_or}
-use Rattle.oc_base.specs.declared.code.Code.{Code}
-use Rattle.oc_base.specs.declared.code.Code.TheVariants.{BadAlign, BadName, LimitSection, LimitSum, LimitBytes, SectionKind}
-use Rattle.oc_base.specs.declared.fault.Phase.TheVariants.{Section}
-use Rattle.oc_base.specs.declared.fault.Fault.{Fault}
-use Rattle.oc_linking.specs.FirstFault.{Condition, fault_of}
-use Rattle.oc_linking.specs.declared.terms.Kind.{Kind}
-use Rattle.oc_linking.specs.declared.terms.Kind.TheVariants.{Zero}
-use Rattle.oc_neutral.specs.KindRules.{same_kind}
-use Rattle.oc_shelf.specs.Reading.Sums.{sum_upto}
-use Rattle.oc_coff.specs.declared.section_header.SectionHeader.{SectionHeader}
-use Rattle.oc_coff.specs.declared.symbol.SymbolEntry.{SymbolEntry}
-use Rattle.oc_coff.specs.Tables.{Tables}
-use Rattle.oc_coff.specs.Entries.{Entry, has_section}
-use Rattle.oc_coff.specs.Comdat.{definition_in, is_comdat, symbols_of}
-use Rattle.oc_coff.specs.Names.{section_name}
+use Rattle.oc_coff.specs.{Files.{CoffFile, tables_in}, declared.section_header.SectionHeader.{SectionHeader}, declared.symbol.SymbolEntry.{SymbolEntry}}
+use Rattle.oc_coff.specs.{Tables.{Tables}, Entries.{Entry, has_section}, Comdat.{definition_in, is_comdat, symbols_of}, Names.{section_name}}
 use Rattle.oc_coff.specs.SectionFaults.{Numbered, carried_bytes, carried_size, copy_conditions, header_place, section_fault, section_stage, worth_by}
 use Rattle.oc_coff.specs.Sections.{align_bits}
+use Rattle.std.specs.Prelude.{◌≡◌, ℕ, ◌+◌, ◌≤◌, Bool, not, ◌&&◌, nat_eq, nat_le, nat_lt, if◌then◌else◌, is_none, List, [], ◌∷◌, length, map, slice_get, slice_index_or, slice_set, Option, Some, None}
+use Rattle.std.specs.Option.{is_some, option_map, option_map_or}
+use Rattle.oc_base.specs.{declared.code.Code.{Code}, declared.code.Code.TheVariants.{BadAlign, BadName, LimitSection, LimitSum, LimitBytes, SectionKind}}
+use Rattle.oc_base.specs.{declared.fault.Phase.TheVariants.{Section}, declared.fault.Fault.{Fault}}
+use Rattle.oc_linking.specs.{FirstFault.{Condition, fault_of}, declared.terms.Kind.{Kind}, declared.terms.Kind.TheVariants.{Zero}}
+use Rattle.oc_neutral.specs.KindRules.{same_kind}
+use Rattle.oc_shelf.specs.Reading.Sums.{sum_upto}
 use Rattle.oc_coff_judge.specs.Numbered.{entry_by}
 
 -- ... the first symbols of sections

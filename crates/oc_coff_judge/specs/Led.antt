@@ -1,15 +1,9 @@
 -- What is carried of a file, by numbers, and which sections lead groups (PE/COFF, "COMDAT Sections"; our profile).
-use Rattle.oc_coff.specs.Files.{CoffFile, tables_in}
-use Rattle.std.specs.Prelude.{◌≡◌, ℕ, ◌+◌, ◌<◌, nat_eq, length, if◌then◌else◌, slice_get, Option, Some}
-use Rattle.std.specs.Option.{option_and_then, option_map}
+use Rattle.oc_coff.specs.{Files.{CoffFile, tables_in}, declared.constants.TheConstants.{IMAGE_COMDAT_SELECT_ASSOCIATIVE}}
+use Rattle.oc_coff.specs.{declared.section_aux.SectionAux.{SectionAux}, Tables.{SectionTable, Tables}, Entries.{entries_in, name_of}}
+use Rattle.oc_coff.specs.{Comdat.{definition_in, key_symbol, led_key}, Sections.{Carried, carried_of, sections_in}, Symbols.{symbol_of}}
+use Rattle.std.specs.{Prelude.{◌≡◌, ℕ, ◌+◌, ◌<◌, nat_eq, length, if◌then◌else◌, slice_get, Option, Some}, Option.{option_and_then, option_map}}
 use Rattle.oc_linking.specs.Parts as parts
-use Rattle.oc_coff.specs.declared.constants.TheConstants.{IMAGE_COMDAT_SELECT_ASSOCIATIVE}
-use Rattle.oc_coff.specs.declared.section_aux.SectionAux.{SectionAux}
-use Rattle.oc_coff.specs.Tables.{SectionTable, Tables}
-use Rattle.oc_coff.specs.Entries.{entries_in, name_of}
-use Rattle.oc_coff.specs.Comdat.{definition_in, key_symbol, led_key}
-use Rattle.oc_coff.specs.Sections.{Carried, carried_of, sections_in}
-use Rattle.oc_coff.specs.Symbols.{symbol_of}
 use Rattle.oc_coff_judge.specs.Numbered.{entry_by}
 
 -- section i, counted from 0, where it is carried

@@ -1,12 +1,7 @@
 -- Symbols by the numbers of their entries (PE/COFF, "COFF Symbol Table"; our profile).
-use Rattle.oc_coff.specs.Files.{CoffFile, slot_in, tables_in}
-use Rattle.oc_coff.specs.Forms.{symbol_size}
-use Rattle.std.specs.Prelude.{◌≡◌, ℕ, ◌+◌, ◌*◌, ◌<◌, nat_eq, if◌then◌else◌, List, length, map, slice_get, Option, None}
-use Rattle.std.specs.List.{AllByRecursion}
+use Rattle.oc_coff.specs.{Files.{CoffFile, slot_in, tables_in}, Forms.{symbol_size}, Tables.{Tables}, Entries.{Entry, entries_in}, Comdat.{symbols_of}}
+use Rattle.std.specs.{Prelude.{◌≡◌, ℕ, ◌+◌, ◌*◌, ◌<◌, nat_eq, if◌then◌else◌, List, length, map, slice_get, Option, None}, List.{AllByRecursion}}
 use Rattle.std.specs.Option.{option_map}
-use Rattle.oc_coff.specs.Tables.{Tables}
-use Rattle.oc_coff.specs.Entries.{Entry, entries_in}
-use Rattle.oc_coff.specs.Comdat.{symbols_of}
 use Rattle.oc_shelf.specs.Reading.Slots.{AreSlots}
 
 -- where entry j begins

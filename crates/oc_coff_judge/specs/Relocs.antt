@@ -1,36 +1,17 @@
 -- Relocation entries, section by section (PE/COFF, "COFF Relocations"; our profile).
-use Rattle.oc_coff.specs.Files.{CoffFile, tables_in}
+use Rattle.oc_coff.specs.{Files.{CoffFile, tables_in}, declared.relocation.Relocation.{Relocation}, declared.relocation.TheConstants.{RELOCATION_SIZE}}
+use Rattle.oc_coff.specs.{Relocation.{relocation_at}, Tables.{Tables}, Sections.{Carried}, Forms.{coff_format}}
+use Rattle.oc_coff.specs.{RelocationFaults.{judged_from, needs_home, relocation_conditions, relocation_stage}, SectionFaults.{section_stage}}
+use Rattle.oc_coff.specs.SymbolFaults.{symbol_stage}
 use Rattle.std.specs.Prelude.{◌≡◌, ℕ, ◌+◌, ◌*◌, ◌≤◌, Bool, true, false, not, ◌||◌, nat_lt, is_none, if◌then◌else◌, List, [], ◌∷◌, length, Option, Some, None}
 use Rattle.std.specs.Option.{option_and_then, option_map, option_map_or}
-use Rattle.oc_base.specs.declared.format.Word.{Word}
-use Rattle.oc_base.specs.declared.code.Code.{Code}
-use Rattle.oc_base.specs.declared.code.Code.TheVariants.{RelocKind, BadOffset, BadTarget, TargetKind}
-use Rattle.oc_base.specs.declared.fault.Phase.TheVariants as phase
+use Rattle.oc_base.specs.{declared.format.Word.{Word}, declared.code.Code.{Code}, declared.code.Code.TheVariants.{RelocKind, BadOffset, BadTarget, TargetKind}}
 use Rattle.oc_base.specs.declared.fault.Fault.{Fault}
-use Rattle.oc_linking.specs.declared.terms.Keep.{Keep}
-use Rattle.oc_linking.specs.Keeping.{keeps}
-use Rattle.oc_linking.specs.Fits.{bytes_of}
-use Rattle.oc_linking.specs.FirstFault.{Condition, Stage, first_broken}
-use Rattle.oc_linking.specs.Numbers.{first_upto}
-use Rattle.oc_neutral.specs.RelocTables.{row_of}
-use Rattle.oc_neutral.specs.Rows.{Row}
-use Rattle.oc_neutral.specs.TargetSections.{each_of}
-use Rattle.oc_shelf.specs.Reading.Firsts.{any_upto}
-use Rattle.oc_shelf.specs.Reading.Rows.{rows}
-use Rattle.oc_shelf.specs.Reading.Bitmaps.{AreBytesOf, room}
-use Rattle.oc_shelf.specs.Reading.Spans.{meets}
-use Rattle.oc_coff.specs.declared.relocation.Relocation.{Relocation}
-use Rattle.oc_coff.specs.declared.relocation.TheConstants.{RELOCATION_SIZE}
-use Rattle.oc_coff.specs.Relocation.{relocation_at}
-use Rattle.oc_coff.specs.Tables.{Tables}
-use Rattle.oc_coff.specs.Sections.{Carried}
-use Rattle.oc_coff.specs.Forms.{coff_format}
-use Rattle.oc_coff.specs.RelocationFaults.{judged_from, needs_home, relocation_conditions, relocation_stage}
-use Rattle.oc_coff.specs.SectionFaults.{section_stage}
-use Rattle.oc_coff.specs.SymbolFaults.{symbol_stage}
-use Rattle.oc_coff_judge.specs.declared.aims.AimKind.{AimKind}
-use Rattle.oc_coff_judge.specs.declared.aims.AimKind.TheVariants.{Nothing, Home, Homeless}
-use Rattle.oc_coff_judge.specs.declared.relocs.Table.{Table}
+use Rattle.oc_base.specs.declared.fault.Phase.TheVariants as phase
+use Rattle.oc_linking.specs.{declared.terms.Keep.{Keep}, Keeping.{keeps}, Fits.{bytes_of}, FirstFault.{Condition, Stage, first_broken}, Numbers.{first_upto}}
+use Rattle.oc_neutral.specs.{RelocTables.{row_of}, Rows.{Row}, TargetSections.{each_of}}
+use Rattle.oc_shelf.specs.{Reading.Firsts.{any_upto}, Reading.Rows.{rows}, Reading.Bitmaps.{AreBytesOf, room}, Reading.Spans.{meets}}
+use Rattle.oc_coff_judge.specs.{declared.aims.AimKind.{AimKind}, declared.aims.AimKind.TheVariants.{Nothing, Home, Homeless}, declared.relocs.Table.{Table}}
 use Rattle.oc_coff_judge.specs.Led.{carried_at}
 
 -- ... by the rules

@@ -1,21 +1,16 @@
 -- Symbols that weak externals tag, and the positions of carried symbols (PE/COFF, "Auxiliary Format 3: Weak Externals"; our profile).
-use Rattle.oc_coff.specs.Files.{CoffFile, tables_in}
+use Rattle.oc_coff.specs.{Files.{CoffFile, tables_in}, declared.constants.TheConstants.{IMAGE_SYM_CLASS_WEAK_EXTERNAL, IMAGE_SYM_TYPE_FUNCTION}}
+use Rattle.oc_coff.specs.{Tables.{Tables}, Entries.{Entry, entries_in, entry_numbered, is_class, name_of}, Sections.{sections_in}}
+use Rattle.oc_coff.specs.Symbols.{is_tagged, symbol_of, symbols_in, tag_of}
 use Rattle.std.specs.Prelude.{◌≡◌, ℕ, ◌<◌, nat_eq, nat_lt, if◌then◌else◌, is_some, false, List, length, slice_get, slice_index_or, slice_set, Option, Some, None}
 use Rattle.std.specs.Option.{option_and_then, option_map, unwrap_or}
-use Rattle.oc_linking.specs.declared.terms.Binding.{Binding}
-use Rattle.oc_linking.specs.declared.terms.Binding.TheVariants.{Local, Global, Undefined, Common, Weak}
-use Rattle.oc_linking.specs.declared.terms.Fallback.{Fallback}
-use Rattle.oc_linking.specs.declared.terms.Fallback.TheVariants as fallback
-use Rattle.oc_linking.specs.declared.terms.Mark.TheVariants.{NoType, Function}
+use Rattle.oc_linking.specs.{declared.terms.Binding.{Binding}, declared.terms.Binding.TheVariants.{Local, Global, Undefined, Common, Weak}}
+use Rattle.oc_linking.specs.{declared.terms.Fallback.{Fallback}, declared.terms.Mark.TheVariants.{NoType, Function}}
 use Rattle.oc_linking.specs.declared.terms.Visibility.TheVariants.{Default}
+use Rattle.oc_linking.specs.declared.terms.Fallback.TheVariants as fallback
 use Rattle.oc_linking.specs.Parts as parts
 use Rattle.oc_neutral.specs.declared.symbol.Symbol.{Symbol}
 use Rattle.oc_shows.specs.Computed.{position_of}
-use Rattle.oc_coff.specs.declared.constants.TheConstants.{IMAGE_SYM_CLASS_WEAK_EXTERNAL, IMAGE_SYM_TYPE_FUNCTION}
-use Rattle.oc_coff.specs.Tables.{Tables}
-use Rattle.oc_coff.specs.Entries.{Entry, entries_in, entry_numbered, is_class, name_of}
-use Rattle.oc_coff.specs.Sections.{sections_in}
-use Rattle.oc_coff.specs.Symbols.{is_tagged, symbol_of, symbols_in, tag_of}
 use Rattle.oc_coff_judge.specs.Numbered.{entry_by}
 
 -- entry j is a symbol: it has a place among all

@@ -1,49 +1,28 @@
 -- The relocations of a file without faults, added one after the other.
-use Rattle.oc_coff.specs.Files.{CoffFile, tables_in}
+use Rattle.oc_coff.specs.{Files.{CoffFile, tables_in}, Tables.{SectionTable, Tables}, Entries.{entries_in}, RelocationFaults.{relocation_stage}}
+use Rattle.oc_coff.specs.{Rules.{dialect_by}, Sections.{Carried, carried_in, carried_of, is_stored, kind_in, section_of, sections_in}}
+use Rattle.oc_coff.specs.{SymbolFaults.{symbol_stage}, Symbols.{symbol_of, symbols_in}, Head.{IsHeaded}}
 use Rattle.std.proofs.Common.{◌≡◌, ℕ, ◌+◌, ◌≤◌, Bool, true, false, cond, List, length, Option, None, Some, refl, sym, ◌∙◌, ap, subst, arith}
-use Rattle.std.specs.Prelude.{◌&&◌, not, nat_eq, slice_get}
-use Rattle.std.specs.Option.{option_map, option_and_then}
-use Rattle.std.proofs.lemmas.Bool.{true≢false}
-use Rattle.std.proofs.lemmas.Option.{none-some, same_Some, slice_get-map, slice_get_within}
+use Rattle.std.specs.{Prelude.{◌&&◌, not, nat_eq, slice_get}, Option.{option_map, option_and_then}}
+use Rattle.std.proofs.lemmas.{Bool.{true≢false}, Option.{none-some, same_Some, slice_get-map, slice_get_within}}
 use Rattle.oc_base.specs.declared.format.Word.{Word}
-use Rattle.oc_linking.specs.declared.terms.Binding.{Binding}
-use Rattle.oc_linking.specs.declared.terms.Binding.TheVariants.{Local, Global, Undefined, Common, Weak}
-use Rattle.oc_linking.specs.declared.terms.Keep.{Keep}
-use Rattle.oc_linking.specs.declared.terms.Kind.{Kind}
-use Rattle.oc_linking.specs.declared.terms.Kind.TheVariants.{Code, ReadOnly, Data, Zero, Init, Fini, Debug, Exception, Note}
-use Rattle.oc_linking.specs.declared.terms.Less.{Less}
+use Rattle.oc_linking.specs.{declared.terms.Binding.{Binding}, declared.terms.Binding.TheVariants.{Local, Global, Undefined, Common, Weak}}
+use Rattle.oc_linking.specs.{declared.terms.Keep.{Keep}, declared.terms.Kind.{Kind}}
+use Rattle.oc_linking.specs.{declared.terms.Kind.TheVariants.{Code, ReadOnly, Data, Zero, Init, Fini, Debug, Exception, Note}, declared.terms.Less.{Less}}
+use Rattle.oc_linking.specs.{FirstFault.{stage_fault}, Fits.{bytes_of}}
 use Rattle.oc_linking.specs.declared.terms.Less.TheVariants as less
 use Rattle.oc_linking.specs.declared.terms.Value.TheVariants as value
-use Rattle.oc_linking.specs.FirstFault.{stage_fault}
-use Rattle.oc_linking.specs.Fits.{bytes_of}
 use Rattle.oc_linking.specs.Parts as parts
-use Rattle.oc_neutral.specs.declared.reloc.Reloc.{Reloc}
-use Rattle.oc_neutral.specs.declared.reloc.Target.{Target}
-use Rattle.oc_neutral.specs.declared.reloc.Target.TheVariants as target
-use Rattle.oc_neutral.specs.declared.symbol.Symbol.{Symbol}
-use Rattle.oc_neutral.specs.Building.{Draft, is_zero}
-use Rattle.oc_shows.specs.Built.{IsStarted}
-use Rattle.oc_shows.specs.Computed.{computed_symbol, placed_binding, position_of as symbol_place}
-use Rattle.oc_neutral.specs.Invariants.{AreBytes, CanAdd, IsBinding, IsLessThere, IsTargetThere}
-use Rattle.oc_neutral.specs.KindRules.{same_kind}
+use Rattle.oc_neutral.specs.{declared.reloc.Reloc.{Reloc}, declared.reloc.Target.{Target}, declared.symbol.Symbol.{Symbol}, Building.{Draft, is_zero}}
+use Rattle.oc_neutral.specs.{Invariants.{AreBytes, CanAdd, IsBinding, IsLessThere, IsTargetThere}, KindRules.{same_kind}}
 use Rattle.oc_neutral.specs.Normal.{Place, local_place, place_among}
-use Rattle.oc_shows.specs.Started.{stored_section}
+use Rattle.oc_neutral.specs.declared.reloc.Target.TheVariants as target
+use Rattle.oc_shows.specs.{Built.{IsStarted}, Computed.{computed_symbol, placed_binding, position_of as symbol_place}, Started.{stored_section}}
 use Rattle.oc_shelf.proofs.ReadingLaws.CollectedLemmas.{IsFrom, collected-from}
-use Rattle.oc_coff.specs.Tables.{SectionTable, Tables}
-use Rattle.oc_coff.specs.Entries.{entries_in}
-use Rattle.oc_coff.specs.RelocationFaults.{relocation_stage}
-use Rattle.oc_coff.specs.Rules.{dialect_by}
-use Rattle.oc_coff.specs.Sections.{Carried, carried_in, carried_of, is_stored, kind_in, section_of, sections_in}
-use Rattle.oc_coff.specs.SymbolFaults.{symbol_stage}
-use Rattle.oc_coff.specs.Symbols.{symbol_of, symbols_in}
-use Rattle.oc_coff.specs.Head.{IsHeaded}
 use Rattle.oc_coff_judge.specs.Led.{carried_at}
-use Rattle.oc_coff_read.specs.Built.{keys_of, symboled}
-use Rattle.oc_coff_read.specs.Given.{given_at}
-use Rattle.oc_coff_judge.proofs.CollectLemmas.{carried_are}
-use Rattle.oc_coff_judge.proofs.NumberedSymbols.{IsCarried, carried_symbol, symbol_stands}
-use Rattle.oc_coff_read.proofs.RowLemmas.{is_row, takes_none}
-use Rattle.oc_coff_read.proofs.StandingFields.{IsStanding, are_apart, are_of_file, differences_fit, form_of, given_standing}
+use Rattle.oc_coff_read.specs.{Built.{keys_of, symboled}, Given.{given_at}}
+use Rattle.oc_coff_judge.proofs.{CollectLemmas.{carried_are}, NumberedSymbols.{IsCarried, carried_symbol, symbol_stands}}
+use Rattle.oc_coff_read.proofs.{RowLemmas.{is_row, takes_none}, StandingFields.{IsStanding, are_apart, are_of_file, differences_fit, form_of, given_standing}}
 use Rattle.oc_coff_read.proofs.WholeSymbols.{binding_there, symbols_same, value_there}
 use Rattle.oc_shows.proofs.AddedLaws.{AreAddable}
 

@@ -1,52 +1,31 @@
 -- Symbols, added one after the other.
 use Rattle.oc_coff.specs.Files.{CoffFile, tables_in}
+use Rattle.oc_coff.specs.declared.constants.TheConstants.{IMAGE_SYM_SECTION_MAX_EX, IMAGE_SYM_ABSOLUTE, IMAGE_SYM_DEBUG, IMAGE_SYM_UNDEFINED, IMAGE_SYM_CLASS_EXTERNAL, IMAGE_SYM_CLASS_LABEL, IMAGE_SYM_CLASS_STATIC, IMAGE_SYM_CLASS_WEAK_EXTERNAL}
+use Rattle.oc_coff.specs.{declared.symbol.SymbolEntry.{SymbolEntry}, Tables.{Tables}, Names.{is_nothing}}
+use Rattle.oc_coff.specs.{Entries.{Entry, entries_in, entry_numbered, is_class, name_of}, Forms.{format_by}}
+use Rattle.oc_coff.specs.Sections.{position_from, sections_in, position_of as section_position}
+use Rattle.oc_coff.specs.Symbols.{binding_of, external_binding, is_own, local_binding, symbol_of, symbol_with, symbols_in, tag_of, value_of, weak_binding}
+use Rattle.oc_coff.specs.{SymbolFaults.{can_be_tagged, symbol_stage}, Head.{IsHeaded}}
 use Rattle.std.proofs.Common.{◌≡◌, ℕ, ◌+◌, ◌<◌, Bool, true, false, cond, List, [], ◌∷◌, length, map, Option, None, Some, Ok, refl, sym, ◌∙◌, ap, subst, arith}
 use Rattle.std.specs.Prelude.{not, ◌&&◌, ◌||◌, nat_eq, nat_le, is_some, slice_get, slice_index_or}
 use Rattle.std.specs.Option.{option_and_then, option_map, option_map_or, unwrap_or}
-use Rattle.std.proofs.lemmas.Bool.{eqb-true, true≢false}
-use Rattle.std.proofs.lemmas.List.{map-append}
-use Rattle.std.proofs.lemmas.Option.{none-some, same_Some}
+use Rattle.std.proofs.lemmas.{Bool.{eqb-true, true≢false}, List.{map-append}, Option.{none-some, same_Some}}
 use Rattle.oc_base.specs.declared.format.Word.{Word}
-use Rattle.oc_linking.specs.declared.terms.Binding.{Binding}
-use Rattle.oc_linking.specs.declared.terms.Binding.TheVariants.{Local, Global, Undefined, Common, Weak}
+use Rattle.oc_linking.specs.{declared.terms.Binding.{Binding}, declared.terms.Binding.TheVariants.{Local, Global, Undefined, Common, Weak}}
+use Rattle.oc_linking.specs.{declared.terms.Value.{Value}, FirstFault.{stage_fault}, Parts.{is_local}}
 use Rattle.oc_linking.specs.declared.terms.Fallback.TheVariants as fallback
-use Rattle.oc_linking.specs.declared.terms.Value.{Value}
 use Rattle.oc_linking.specs.declared.terms.Value.TheVariants as value
-use Rattle.oc_linking.specs.FirstFault.{stage_fault}
 use Rattle.oc_linking.specs.Parts as parts
-use Rattle.oc_linking.specs.Parts.{is_local}
-use Rattle.oc_neutral.specs.declared.symbol.Symbol.{Symbol}
-use Rattle.oc_neutral.specs.Building.{Draft, symbol_added}
-use Rattle.oc_shows.specs.Computed.{computed_symbol, placed_binding, position_of}
-use Rattle.oc_neutral.specs.Invariants.{AreBytes}
-use Rattle.oc_neutral.specs.Keeping.{is_again}
-use Rattle.oc_neutral.specs.Powers.{natural_align}
-use Rattle.oc_shows.specs.Started.{groups_by, plain_draft, stored_section}
-use Rattle.oc_shows.proofs.BuiltSteps.{name_is_new}
-use Rattle.oc_shows.proofs.StartedLaws.{symbol_more}
-use Rattle.oc_shelf.specs.Reading.Collected.{collected}
-use Rattle.oc_shelf.specs.Reading.Slots.{AreSlots}
+use Rattle.oc_neutral.specs.{declared.symbol.Symbol.{Symbol}, Building.{Draft, symbol_added}, Invariants.{AreBytes}, Keeping.{is_again}, Powers.{natural_align}}
+use Rattle.oc_shows.specs.{Computed.{computed_symbol, placed_binding, position_of}, Started.{groups_by, plain_draft, stored_section}}
+use Rattle.oc_shows.proofs.{BuiltSteps.{name_is_new}, StartedLaws.{symbol_more}}
+use Rattle.oc_shelf.specs.{Reading.Collected.{collected}, Reading.Slots.{AreSlots}}
 use Rattle.oc_shelf.proofs.ReadingLaws.CollectedLemmas.{IsFrom, collected-from, collected-none, collected-some}
-use Rattle.oc_coff.specs.declared.constants.TheConstants.{IMAGE_SYM_SECTION_MAX_EX, IMAGE_SYM_ABSOLUTE, IMAGE_SYM_DEBUG, IMAGE_SYM_UNDEFINED, IMAGE_SYM_CLASS_EXTERNAL, IMAGE_SYM_CLASS_LABEL, IMAGE_SYM_CLASS_STATIC, IMAGE_SYM_CLASS_WEAK_EXTERNAL}
-use Rattle.oc_coff.specs.declared.symbol.SymbolEntry.{SymbolEntry}
-use Rattle.oc_coff.specs.Tables.{Tables}
-use Rattle.oc_coff.specs.Names.{is_nothing}
-use Rattle.oc_coff.specs.Entries.{Entry, entries_in, entry_numbered, is_class, name_of}
-use Rattle.oc_coff.specs.Forms.{format_by}
-use Rattle.oc_coff.specs.Sections.{position_from, sections_in, position_of as section_position}
-use Rattle.oc_coff.specs.Symbols.{binding_of, external_binding, is_own, local_binding, symbol_of, symbol_with, symbols_in, tag_of, value_of, weak_binding}
-use Rattle.oc_coff.specs.SymbolFaults.{can_be_tagged, symbol_stage}
-use Rattle.oc_coff.specs.Head.{IsHeaded}
 use Rattle.oc_coff_read.specs.Built.{keys_of, symboled}
-use Rattle.oc_coff_judge.specs.Led.{symbol_at}
-use Rattle.oc_coff_judge.specs.Numbered.{entry_by}
+use Rattle.oc_coff_judge.specs.{Led.{symbol_at}, Numbered.{entry_by}, Tagged.{carried_position, symbol_as, symbol_position}}
 use Rattle.oc_coff_judge.specs.Tagged as tagged
-use Rattle.oc_coff_judge.specs.Tagged.{carried_position, symbol_as, symbol_position}
-use Rattle.oc_coff_read.proofs.ByteLemmas.{entry_small}
-use Rattle.oc_coff_judge.proofs.EntryLemmas.{find_from}
-use Rattle.oc_coff_read.proofs.NamedDefaults.{IsDefault, default_of, external_carried}
-use Rattle.oc_coff_judge.proofs.NumberedSymbols.{IsAt, carried_symbol, stands_at}
-use Rattle.oc_coff_judge.proofs.SoundSymbols.{is_seen, seen_once, sound_symbol}
+use Rattle.oc_coff_read.proofs.{ByteLemmas.{entry_small}, NamedDefaults.{IsDefault, default_of, external_carried}}
+use Rattle.oc_coff_judge.proofs.{EntryLemmas.{find_from}, NumberedSymbols.{IsAt, carried_symbol, stands_at}, SoundSymbols.{is_seen, seen_once, sound_symbol}}
 use Rattle.oc_coff_judge.proofs.TagLemmas.{entry_at}
 
 -- ... which other files see

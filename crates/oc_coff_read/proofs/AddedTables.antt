@@ -1,48 +1,25 @@
 -- What is given, table by table and entry by entry.
-use Rattle.oc_coff.specs.Files.{CoffFile, tables_in}
+use Rattle.oc_coff.specs.{Files.{CoffFile, tables_in}, declared.relocation.Relocation.{Relocation}, Relocation.{relocation_at}}
+use Rattle.oc_coff.specs.{declared.section_header.SectionHeader.{SectionHeader}, SectionFaults.{section_stage}, Tables.{SectionTable, Tables, section_table}}
+use Rattle.oc_coff.specs.{Fields.{says_nothing}, Sections.{Carried, carried_in, carried_of, is_stored, kind_in, section_of}, Head.{IsHeaded}}
 use Rattle.std.proofs.Common.{◌≡◌, ℕ, ◌+◌, ◌<◌, ◌≤◌, inl, inr, true, false, cond, List, length, take, drop, replicate, Option, None, Some, sym, ◌∙◌, ap, subst, arith, get_or, length-take, length-drop}
-use Rattle.std.specs.Prelude.{nat_lt, slice_get}
-use Rattle.std.specs.List.Sorted.{IsPermutation}
-use Rattle.std.specs.Option.{option_and_then, option_map, option_map_or}
-use Rattle.std.proofs.lemmas.Bool.{cases_eq, cases_lt}
-use Rattle.std.proofs.lemmas.Option.{same_Some, slice_get_past, slice_get_within}
+use Rattle.std.specs.{Prelude.{nat_lt, slice_get}, List.Sorted.{IsPermutation}, Option.{option_and_then, option_map, option_map_or}}
+use Rattle.std.proofs.lemmas.{Bool.{cases_eq, cases_lt}, Option.{same_Some, slice_get_past, slice_get_within}}
 use Rattle.oc_base.specs.declared.format.Word.{Word}
-use Rattle.oc_linking.specs.declared.terms.Keep.{Keep}
-use Rattle.oc_linking.specs.declared.terms.Kind.{Kind}
-use Rattle.oc_linking.specs.FirstFault.{stage_fault}
-use Rattle.oc_linking.specs.Fits.{bytes_of}
-use Rattle.oc_linking.specs.Keeping.{keeps}
-use Rattle.oc_neutral.specs.declared.reloc.Reloc.{Reloc}
-use Rattle.oc_neutral.specs.Building.{Draft}
+use Rattle.oc_linking.specs.{declared.terms.Keep.{Keep}, declared.terms.Kind.{Kind}, FirstFault.{stage_fault}, Fits.{bytes_of}, Keeping.{keeps}}
+use Rattle.oc_neutral.specs.{declared.reloc.Reloc.{Reloc}, Building.{Draft}, Invariants.{AreBytes}, Rows.{Row}}
 use Rattle.oc_shows.specs.Built.{HasAdded}
-use Rattle.oc_neutral.specs.Invariants.{AreBytes}
-use Rattle.oc_neutral.specs.Rows.{Row}
-use Rattle.oc_shelf.specs.declared.reading.order.PlacedEntry.{PlacedEntry}
-use Rattle.oc_shelf.specs.Reading.Collected.{collected}
-use Rattle.oc_shelf.proofs.ReadingLaws.CollectedLemmas.{collected-at, collected-none, collected-same}
-use Rattle.oc_shelf.proofs.ReadingLaws.RowLemmas.{length-rows, row_at}
-use Rattle.oc_coff.specs.declared.relocation.Relocation.{Relocation}
-use Rattle.oc_coff.specs.Relocation.{relocation_at}
-use Rattle.oc_coff.specs.declared.section_header.SectionHeader.{SectionHeader}
-use Rattle.oc_coff.specs.SectionFaults.{section_stage}
-use Rattle.oc_coff.specs.Tables.{SectionTable, Tables, section_table}
-use Rattle.oc_coff.specs.Fields.{says_nothing}
-use Rattle.oc_coff.specs.Sections.{Carried, carried_in, carried_of, is_stored, kind_in, section_of}
-use Rattle.oc_coff_judge.specs.declared.relocs.Table.{Table}
-use Rattle.oc_coff_read.specs.Adding.{HasBefore, IsPlace, IsReady, started}
-use Rattle.oc_coff_judge.specs.Led.{carried_at}
-use Rattle.oc_coff_read.specs.Given.{IsAimed, entry_in, given_at, given_before, given_with, placed, placed_as, placed_at, reloc_by, reloc_in}
-use Rattle.oc_coff.specs.Head.{IsHeaded}
-use Rattle.oc_coff_judge.specs.Relocs.{IsTable, reloc_of, width_of}
-use Rattle.oc_coff_read.proofs.BuildLemmas.{header_kind, header_lies, raw_is}
-use Rattle.oc_coff_judge.proofs.CollectLemmas.{carried_are}
-use Rattle.oc_coff_read.proofs.FoundEntries.{IsGood, differ_at, good_entry}
-use Rattle.oc_coff_read.proofs.PlacedEntries.{Differ, IsPlacedEntry, differ_placed, entry_at, entry_is, offset_among, placed_at as entry_placed}
-use Rattle.oc_coff_read.proofs.StandingFields.{IsStanding, entry_given, given_standing}
-use Rattle.oc_coff_read.proofs.AddedRelocs.{addable}
-use Rattle.oc_shows.proofs.AddedLaws.{IsTaken, entry_taken, given_all as all_given, given_passed, lt_next, lt_self, lt_stays, table_done as all_done}
+use Rattle.oc_shelf.specs.{declared.reading.order.PlacedEntry.{PlacedEntry}, Reading.Collected.{collected}, Reading.Order.{is_among}}
+use Rattle.oc_shelf.proofs.{ReadingLaws.CollectedLemmas.{collected-at, collected-none, collected-same}, ReadingLaws.RowLemmas.{length-rows, row_at}}
 use Rattle.oc_shelf.proofs.ReadingLaws.PlacedLemmas.{not_among}
-use Rattle.oc_shelf.specs.Reading.Order.{is_among}
+use Rattle.oc_coff_judge.specs.{declared.relocs.Table.{Table}, Led.{carried_at}, Relocs.{IsTable, reloc_of, width_of}}
+use Rattle.oc_coff_read.specs.Adding.{HasBefore, IsPlace, IsReady, started}
+use Rattle.oc_coff_read.specs.Given.{IsAimed, entry_in, given_at, given_before, given_with, placed, placed_as, placed_at, reloc_by, reloc_in}
+use Rattle.oc_coff_read.proofs.{BuildLemmas.{header_kind, header_lies, raw_is}, FoundEntries.{IsGood, differ_at, good_entry}}
+use Rattle.oc_coff_read.proofs.PlacedEntries.{Differ, IsPlacedEntry, differ_placed, entry_at, entry_is, offset_among, placed_at as entry_placed}
+use Rattle.oc_coff_read.proofs.{StandingFields.{IsStanding, entry_given, given_standing}, AddedRelocs.{addable}}
+use Rattle.oc_coff_judge.proofs.CollectLemmas.{carried_are}
+use Rattle.oc_shows.proofs.AddedLaws.{IsTaken, entry_taken, given_all as all_given, given_passed, lt_next, lt_self, lt_stays, table_done as all_done}
 
 -- ... sections
 

@@ -1,30 +1,18 @@
 -- Groups, begun one after the other in the order of their first members.
-use Rattle.oc_coff.specs.Files.{CoffFile, slot_in, tables_in}
-use Rattle.oc_coff.specs.Forms.{symbol_size, format_by}
+use Rattle.oc_coff.specs.{Files.{CoffFile, slot_in, tables_in}, Forms.{symbol_size, format_by}, Tables.{SectionTable, Tables}, Names.{symbol_name}}
+use Rattle.oc_coff.specs.{Entries.{name_of}, Comdat.{key_in, led_key}, Sections.{Carried, carried_of, is_stored, kind_in, section_of}}
+use Rattle.oc_coff.specs.SymbolFaults.{symbol_stage}
 use Rattle.std.proofs.Common.{◌≡◌, ℕ, ◌+◌, ◌*◌, ◌<◌, ◌≤◌, true, false, cond, List, [], ◌∷◌, ◌++◌, length, replicate, set, Option, None, Some, refl, sym, ◌∙◌, ap, arith}
-use Rattle.std.specs.Prelude.{bytes_eq, is_some, slice_get, slice_index_or}
-use Rattle.std.specs.List.{position_or_len}
-use Rattle.std.specs.Option.{option_map, option_and_then, unwrap_or}
-use Rattle.std.proofs.lemmas.Option.{none-some, same_Some}
-use Rattle.std.proofs.lemmas.List.{map-append, length-set}
-use Rattle.oc_base.specs.declared.format.Word.{Word}
-use Rattle.oc_base.specs.Strings.{is_given}
-use Rattle.oc_linking.specs.declared.terms.Kind.{Kind}
-use Rattle.oc_linking.specs.FirstFault.{stage_fault}
+use Rattle.std.specs.{Prelude.{bytes_eq, is_some, slice_get, slice_index_or}, List.{position_or_len}, Option.{option_map, option_and_then, unwrap_or}}
+use Rattle.std.proofs.lemmas.{Option.{none-some, same_Some}, List.{map-append, length-set}}
+use Rattle.oc_base.specs.{declared.format.Word.{Word}, Strings.{is_given}}
+use Rattle.oc_linking.specs.{declared.terms.Kind.{Kind}, FirstFault.{stage_fault}}
 use Rattle.oc_linking.specs.Parts as parts
-use Rattle.oc_neutral.specs.declared.group.Group.{Group}
-use Rattle.oc_neutral.specs.Building.{Draft, group_added}
+use Rattle.oc_neutral.specs.{declared.group.Group.{Group}, Building.{Draft, group_added}}
 use Rattle.oc_shows.specs.Started.{groups_by, plain_draft}
 use Rattle.oc_shows.proofs.StartedLaws.{group_more}
-use Rattle.oc_coff.specs.Tables.{SectionTable, Tables}
-use Rattle.oc_coff.specs.Names.{symbol_name}
-use Rattle.oc_coff.specs.Entries.{name_of}
-use Rattle.oc_coff.specs.Comdat.{key_in, led_key}
-use Rattle.oc_coff.specs.Sections.{Carried, carried_of, is_stored, kind_in, section_of}
-use Rattle.oc_coff.specs.SymbolFaults.{symbol_stage}
 use Rattle.oc_coff_read.specs.Built.{AreBegunGroups, grouped, keys_of, keys_upto}
-use Rattle.oc_coff_judge.specs.Led.{carried_at, leader_of, section_at}
-use Rattle.oc_coff_judge.specs.Numbered.{entry_by}
+use Rattle.oc_coff_judge.specs.{Led.{carried_at, leader_of, section_at}, Numbered.{entry_by}}
 use Rattle.oc_coff_judge.proofs.LedLemmas.{key_led, leading, one_leader}
 use Rattle.oc_shows.proofs.BegunLaws as laws
 use Rattle.oc_shelf.proofs.ReadingLaws.SlotLemmas.{get_or-replicate, length-replicate}

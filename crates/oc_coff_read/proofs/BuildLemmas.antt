@@ -1,43 +1,27 @@
 -- The sections of a file without faults, added one after the other.
-use Rattle.oc_coff.specs.Files.{CoffFile}
+use Rattle.oc_coff.specs.{Files.{CoffFile}, declared.section_header.SectionHeader.{SectionHeader}, Tables.{SectionTable, Tables, section_table}}
+use Rattle.oc_coff.specs.{Names.{section_name}, Comdat.{definition_in, is_comdat}, Forms.{format_by}}
+use Rattle.oc_coff.specs.{Sections.{Carried, align_bits, carried_of, is_stored, kind_in, section_of}, HeaderFaults.{passes_end}}
+use Rattle.oc_coff.specs.SectionFaults.{Numbered, carried_bytes, carried_size, copy_conditions, header_place, limit_conditions, raw_conditions, section_conditions, section_fault, section_stage, table_conditions, worth_by}
 use Rattle.std.proofs.Common.{◌≡◌, ℕ, zero, suc, ◌+◌, ◌<◌, ◌≤◌, Bool, true, false, cond, eqb, List, [], ◌∷◌, ◌++◌, length, map, take, drop, replicate, Option, None, Some, Ok, refl, sym, ◌∙◌, ap, subst, arith, length-take, length-drop}
-use Rattle.std.specs.Prelude.{not, ◌&&◌, nat_eq, is_none, is_some, slice_get, bytes_eq}
-use Rattle.std.specs.List.{enumerate_from, position_or_len}
+use Rattle.std.specs.{Prelude.{not, ◌&&◌, nat_eq, is_none, is_some, slice_get, bytes_eq}, List.{enumerate_from, position_or_len}}
 use Rattle.std.specs.Option.{option_and_then, option_map, option_map_or}
-use Rattle.std.proofs.lemmas.Bool.{true≢false}
-use Rattle.std.proofs.lemmas.Option.{slice_get_within}
-use Rattle.std.proofs.lemmas.List.{length-map}
-use Rattle.oc_base.specs.declared.format.Word.{Word}
-use Rattle.oc_base.specs.declared.format.Word.TheVariants.{W32}
-use Rattle.oc_base.specs.declared.code.Code.TheVariants.{BadName, BadAlign, SectionKind}
-use Rattle.oc_linking.specs.declared.terms.Kind.{Kind}
-use Rattle.oc_linking.specs.declared.terms.Kind.TheVariants.{Code, ReadOnly, Data, Zero, Init, Fini, Debug, Exception, Note}
+use Rattle.std.proofs.lemmas.{Bool.{true≢false}, Option.{slice_get_within}, List.{length-map}}
+use Rattle.oc_base.specs.{declared.format.Word.{Word}, declared.format.Word.TheVariants.{W32}, declared.code.Code.TheVariants.{BadName, BadAlign, SectionKind}}
+use Rattle.oc_linking.specs.{declared.terms.Kind.{Kind}, declared.terms.Kind.TheVariants.{Code, ReadOnly, Data, Zero, Init, Fini, Debug, Exception, Note}}
 use Rattle.oc_linking.specs.FirstFault.{Condition, fault_of, first_broken, stage_fault}
 use Rattle.oc_linking.specs.Parts as parts
-use Rattle.oc_neutral.specs.KindRules.{same_kind}
-use Rattle.oc_neutral.specs.declared.section.Section.{Section}
-use Rattle.oc_neutral.specs.Building.{is_zero, limit_passed, section_added, size_sum, stored_size, stored_sum}
-use Rattle.oc_neutral.specs.Invariants.{HasItsBytes, IsMember}
+use Rattle.oc_neutral.specs.{KindRules.{same_kind}, declared.section.Section.{Section}}
+use Rattle.oc_neutral.specs.{Building.{is_zero, limit_passed, section_added, size_sum, stored_size, stored_sum}, Invariants.{HasItsBytes, IsMember}}
 use Rattle.oc_shows.specs.Started.{groups_by, plain_draft, stored_section}
-use Rattle.oc_shows.proofs.BuiltSteps.{within}
-use Rattle.oc_shows.proofs.StartedLaws.{section_more}
-use Rattle.oc_shelf.specs.Reading.Collected.{collected}
-use Rattle.oc_shelf.specs.Reading.Sums.{sum_upto}
+use Rattle.oc_shows.proofs.{BuiltSteps.{within}, StartedLaws.{section_more}, KeyListLemmas.{given_low}}
+use Rattle.oc_shelf.specs.{Reading.Collected.{collected}, Reading.Sums.{sum_upto}}
 use Rattle.oc_shelf.proofs.ReadingLaws.CollectedLemmas.{collected-some, collected-none, collected-sum, length-collected}
 use Rattle.oc_shelf.proofs.ReadingLaws.StageLemmas.{all_hold, clean_at, clean_both}
-use Rattle.oc_coff.specs.declared.section_header.SectionHeader.{SectionHeader}
-use Rattle.oc_coff.specs.Tables.{SectionTable, Tables, section_table}
-use Rattle.oc_coff.specs.Names.{section_name}
-use Rattle.oc_coff.specs.Comdat.{definition_in, is_comdat}
-use Rattle.oc_coff.specs.Forms.{format_by}
-use Rattle.oc_coff.specs.Sections.{Carried, align_bits, carried_of, is_stored, kind_in, section_of}
-use Rattle.oc_coff.specs.HeaderFaults.{passes_end}
-use Rattle.oc_coff.specs.SectionFaults.{Numbered, carried_bytes, carried_size, copy_conditions, header_place, limit_conditions, raw_conditions, section_conditions, section_fault, section_stage, table_conditions, worth_by}
 use Rattle.oc_coff_judge.specs.Led.{carried_at, section_at}
 use Rattle.oc_coff_read.specs.Built.{keys_of, sectioned}
 use Rattle.oc_coff_read.proofs.BegunLemmas.{key_given, section_group}
 use Rattle.oc_coff_judge.proofs.CarriedLemmas.{section_is}
-use Rattle.oc_shows.proofs.KeyListLemmas.{given_low}
 use Rattle.oc_target.proofs.MeetsConditions.{not_below}
 use Rattle.oc_neutral.proofs.LeftObject.{sum_map}
 

@@ -1,23 +1,14 @@
 -- Numbers and names that are read from bytes.
-use Rattle.oc_coff.specs.declared.form.Shape.{Shape}
-use Rattle.oc_coff.specs.declared.form.Shape.TheVariants.{Usual, Big}
-use Rattle.oc_coff.specs.SymbolEntry.{signed_number, symbol_at}
-use Rattle.oc_coff.specs.Files.{CoffFile, tables_in}
-use Rattle.oc_coff.specs.Forms.{header_size}
+use Rattle.oc_coff.specs.{declared.form.Shape.{Shape}, declared.form.Shape.TheVariants.{Usual, Big}, SymbolEntry.{signed_number, symbol_at}}
+use Rattle.oc_coff.specs.{Files.{CoffFile, tables_in}, Forms.{header_size}, declared.symbol.SymbolEntry.{SymbolEntry}, FileHeader.{file_header_of}}
+use Rattle.oc_coff.specs.{Names.{string_at, symbol_name}, SectionHeader.{section_header_at}}
+use Rattle.oc_coff.specs.{Tables.{SectionTable, has_strings, section_table, slot_at, strings_of, strings_place, strings_size, tables_of}, Entries.{name_of}}
 use Rattle.std.proofs.Common.{◌≡◌, ℕ, ◌+◌, ◌*◌, ◌<◌, ◌^◌, Bool, true, false, cond, List, [], drop, take, Option, None, Some, refl, sym, ◌∙◌, subst, arith}
-use Rattle.std.specs.Prelude.{nat_eq, nat_le, nat_lt, slice_get}
-use Rattle.std.specs.List.{AllByRecursion, before_first, position_or_len}
-use Rattle.std.specs.Option.{unwrap_or}
+use Rattle.std.specs.{Prelude.{nat_eq, nat_le, nat_lt, slice_get}, List.{AllByRecursion, before_first, position_or_len}, Option.{unwrap_or}}
 use Rattle.std.proofs.lemmas.Option.{same_Some, slice_get_within}
 use Rattle.oc_base.specs.Numbers.{number_at}
 use Rattle.oc_neutral.specs.Invariants.{AreBytes}
 use Rattle.oc_shelf.specs.Reading.Texts.{text_at}
-use Rattle.oc_coff.specs.declared.symbol.SymbolEntry.{SymbolEntry}
-use Rattle.oc_coff.specs.FileHeader.{file_header_of}
-use Rattle.oc_coff.specs.Names.{string_at, symbol_name}
-use Rattle.oc_coff.specs.SectionHeader.{section_header_at}
-use Rattle.oc_coff.specs.Tables.{SectionTable, has_strings, section_table, slot_at, strings_of, strings_place, strings_size, tables_of}
-use Rattle.oc_coff.specs.Entries.{name_of}
 use Rattle.oc_coff_judge.specs.Numbered.{entry_by, entry_place}
 use Rattle.oc_coff.proofs.HeadLemmas.{section_there}
 use Rattle.oc_shelf.proofs.ReadingLaws.ByteLemmas.{all_drop, all_take, all_text, number_small}

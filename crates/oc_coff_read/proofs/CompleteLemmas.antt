@@ -1,45 +1,24 @@
 -- What is built of a file without faults is complete before its relocations.
-use Rattle.oc_coff.specs.Files.{CoffFile, tables_in}
+use Rattle.oc_coff.specs.{Files.{CoffFile, tables_in}, Tables.{Tables}, Names.{is_nothing}, Comdat.{led_key}, Entries.{Entry, entries_in, is_class, name_of}}
+use Rattle.oc_coff.specs.{Sections.{align_bits, align_of, sections_in}, SymbolFaults.{is_external, symbol_stage}, Symbols.{symbol_of, symbols_in}}
+use Rattle.oc_coff.specs.{declared.constants.TheConstants.{IMAGE_SYM_CLASS_WEAK_EXTERNAL}, Head.{IsHeaded}}
 use Rattle.std.proofs.Common.{◌≡◌, ◌≢◌, ℕ, ◌+◌, ◌-◌, ◌^◌, ◌<◌, Bool, true, false, cond, List, [], ◌∷◌, length, map, Option, None, Some, refl, sym, ◌∙◌, ap, subst, arith}
-use Rattle.std.specs.Prelude.{◌&&◌, ◌||◌, bytes_eq, nat_eq, slice_get}
-use Rattle.std.specs.List.{AllByRecursion, position_or_len}
-use Rattle.std.specs.Option.{option_map, option_and_then}
-use Rattle.std.proofs.lemmas.Bool.{true≢false}
-use Rattle.std.proofs.lemmas.List.{length-map}
-use Rattle.std.proofs.lemmas.Option.{none-some}
+use Rattle.std.specs.{Prelude.{◌&&◌, ◌||◌, bytes_eq, nat_eq, slice_get}, List.{AllByRecursion, position_or_len}, Option.{option_map, option_and_then}}
+use Rattle.std.proofs.lemmas.{Bool.{true≢false}, List.{length-map}, Option.{none-some}}
 use Rattle.oc_base.specs.declared.format.Word.{Word}
 use Rattle.oc_linking.specs.FirstFault.{stage_fault}
 use Rattle.oc_linking.specs.Parts as parts
 use Rattle.oc_chains.specs.declared.field.Field.{Field}
-use Rattle.oc_neutral.specs.declared.group.Group.{Group}
-use Rattle.oc_neutral.specs.declared.reloc.Reloc.{Reloc}
-use Rattle.oc_neutral.specs.declared.section.Section.{Section}
-use Rattle.oc_shows.specs.Computed.{computed_symbol, keys_after}
+use Rattle.oc_neutral.specs.{declared.group.Group.{Group}, declared.reloc.Reloc.{Reloc}, declared.section.Section.{Section}}
 use Rattle.oc_neutral.specs.Invariants.{AreBegun, AreBytes, HaveKeys, IsAlign, IsComplete, IsHinted, IsSymbol, NamesOriginal, groups_of}
-use Rattle.oc_shows.specs.Started.{groups_by, stored_section}
-use Rattle.oc_shows.proofs.StartedLaws.{fieldless_at}
-use Rattle.oc_shelf.proofs.ReadingLaws.CollectedLemmas.{IsFrom, collected-from, all_mapped}
-use Rattle.oc_shelf.proofs.WritingLaws.MemberLemmas.{of_map}
-use Rattle.oc_coff.specs.Tables.{Tables}
-use Rattle.oc_coff.specs.Names.{is_nothing}
-use Rattle.oc_coff.specs.Comdat.{led_key}
-use Rattle.oc_coff.specs.Entries.{Entry, entries_in, is_class, name_of}
-use Rattle.oc_coff.specs.Sections.{align_bits, align_of, sections_in}
-use Rattle.oc_coff.specs.SymbolFaults.{is_external, symbol_stage}
-use Rattle.oc_coff.specs.Symbols.{symbol_of, symbols_in}
-use Rattle.oc_coff.specs.declared.constants.TheConstants.{IMAGE_SYM_CLASS_WEAK_EXTERNAL}
-use Rattle.oc_coff_read.specs.Adding.{started}
-use Rattle.oc_coff_read.specs.Built.{keys_of}
+use Rattle.oc_shows.specs.{Computed.{computed_symbol, keys_after}, Started.{groups_by, stored_section}}
+use Rattle.oc_shows.proofs.{StartedLaws.{fieldless_at}, KeyListLemmas.{keys_all, keys_apart, keys_begin}}
+use Rattle.oc_shelf.proofs.{ReadingLaws.CollectedLemmas.{IsFrom, collected-from, all_mapped}, WritingLaws.MemberLemmas.{of_map}}
+use Rattle.oc_coff_read.specs.{Adding.{started}, Built.{keys_of}}
 use Rattle.oc_coff_judge.specs.Led.{leader_of, section_at, symbol_at}
-use Rattle.oc_coff.specs.Head.{IsHeaded}
-use Rattle.oc_coff_read.proofs.BegunLemmas.{section_group}
-use Rattle.oc_coff_judge.proofs.CollectLemmas.{sections_are, symbols_are}
-use Rattle.oc_shows.proofs.KeyListLemmas.{keys_all, keys_apart, keys_begin}
-use Rattle.oc_coff_judge.proofs.LedLemmas.{IsLeading, key_led, leading}
-use Rattle.oc_coff_judge.proofs.NumberedSymbols.{IsAt, stands_at}
-use Rattle.oc_coff_judge.proofs.SoundSymbols.{sound_symbol}
-use Rattle.oc_coff_read.proofs.WholeSymbols.{IsOf, section_by, symbol_whole, symbols_same}
-use Rattle.oc_coff_judge.proofs.PlacedLemmas.{section_from}
+use Rattle.oc_coff_read.proofs.{BegunLemmas.{section_group}, WholeSymbols.{IsOf, section_by, symbol_whole, symbols_same}}
+use Rattle.oc_coff_judge.proofs.{CollectLemmas.{sections_are, symbols_are}, LedLemmas.{IsLeading, key_led, leading}, NumberedSymbols.{IsAt, stands_at}}
+use Rattle.oc_coff_judge.proofs.{SoundSymbols.{sound_symbol}, PlacedLemmas.{section_from}}
 use Rattle.oc_neutral.proofs.Positions.{each_at}
 
 -- the groups of sections that are stored

@@ -1,30 +1,16 @@
 -- What the entries of a kept section have that have no fault.
 use Rattle.std.proofs.Common.{◌≡◌, ℕ, zero, suc, ◌+◌, ◌<◌, ◌≤◌, inl, inr, Bool, true, false, cond, List, [], ◌∷◌, ◌++◌, length, take, Option, None, Some, refl, sym, ◌∙◌, ap, arith}
-use Rattle.std.specs.Prelude.{not, ◌&&◌, ◌||◌, nat_lt, filter, find, is_none, slice_get}
-use Rattle.std.specs.List.{list_any}
-use Rattle.std.specs.Option.{option_map_or}
-use Rattle.std.proofs.lemmas.Bool.{cases_eq, cases_lt, eq-eqb, eqb-true, true≢false, and_parts, or_parts, not-false}
-use Rattle.std.proofs.lemmas.Bool.Decides.{nat_tests}
-use Rattle.std.proofs.lemmas.Option.{none-some, same_Some, slice_get_within}
-use Rattle.oc_base.specs.declared.format.Word.{Word}
-use Rattle.oc_base.specs.declared.code.Code.TheVariants.{RelocKind}
-use Rattle.oc_linking.specs.declared.terms.Keep.{Keep}
-use Rattle.oc_linking.specs.Keeping.{keeps}
-use Rattle.oc_linking.specs.Fits.{bytes_of}
-use Rattle.oc_linking.specs.FirstFault.{fault_of, first_broken, stage_fault}
-use Rattle.oc_neutral.specs.Rows.{Row}
-use Rattle.oc_neutral.specs.RelocTables.{row_of}
-use Rattle.oc_shelf.proofs.ReadingLaws.StageLemmas.{all_hold, clean_at}
-use Rattle.oc_shelf.proofs.WritingLaws.MemberLemmas.{member_flat_map, member_filter}
-use Rattle.oc_coff.specs.declared.relocation.Relocation.{Relocation}
-use Rattle.oc_coff.specs.Tables.{Tables}
-use Rattle.oc_coff.specs.Sections.{Carried, carried_in}
-use Rattle.oc_coff.specs.Targets.{Aim, aim_in}
-use Rattle.oc_coff.specs.Forms.{coff_format}
-use Rattle.oc_coff.specs.Fields.{relocates, says_nothing}
+use Rattle.std.specs.{Prelude.{not, ◌&&◌, ◌||◌, nat_lt, filter, find, is_none, slice_get}, List.{list_any}, Option.{option_map_or}}
+use Rattle.std.proofs.lemmas.{Bool.{cases_eq, cases_lt, eq-eqb, eqb-true, true≢false, and_parts, or_parts, not-false}, Bool.Decides.{nat_tests}}
+use Rattle.std.proofs.lemmas.{Option.{none-some, same_Some, slice_get_within}, List.{append-nil}}
+use Rattle.oc_base.specs.{declared.format.Word.{Word}, declared.code.Code.TheVariants.{RelocKind}}
+use Rattle.oc_linking.specs.{declared.terms.Keep.{Keep}, Keeping.{keeps}, Fits.{bytes_of}, FirstFault.{fault_of, first_broken, stage_fault}}
+use Rattle.oc_neutral.specs.{Rows.{Row}, RelocTables.{row_of}}
+use Rattle.oc_shelf.proofs.{ReadingLaws.StageLemmas.{all_hold, clean_at}, WritingLaws.MemberLemmas.{member_flat_map, member_filter}}
+use Rattle.oc_coff.specs.{declared.relocation.Relocation.{Relocation}, Tables.{Tables}, Sections.{Carried, carried_in}, Targets.{Aim, aim_in}}
+use Rattle.oc_coff.specs.{Forms.{coff_format}, Fields.{relocates, says_nothing}}
 use Rattle.oc_coff.specs.RelocationFaults.{Judged, is_wrong_aim, judged_from, judged_in, meets_field, relocation_conditions, relocation_fault, relocation_stage, row_conditions}
 use Rattle.oc_coff_judge.proofs.EntryLemmas.{find_from}
-use Rattle.std.proofs.lemmas.List.{append-nil}
 use Rattle.oc_target.proofs.MeetsConditions.{not_below}
 use Rattle.oc_neutral.proofs.Adding.{wide_enough}
 

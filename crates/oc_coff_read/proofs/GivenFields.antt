@@ -1,45 +1,24 @@
 -- What is given at an offset is the field there.
-use Rattle.oc_coff.specs.Files.{CoffFile, tables_in}
+use Rattle.oc_coff.specs.{Files.{CoffFile, tables_in}, declared.relocation.Relocation.{Relocation}, Entries.{Entry, entries_in, entry_numbered}}
+use Rattle.oc_coff.specs.{Sections.{Carried, carried_in, sections_in}, Symbols.{is_own, symbol_of, symbols_in, value_of}}
+use Rattle.oc_coff.specs.{Targets.{Aim, aim_at, aim_by, aim_for, aim_in, target_in}, Forms.{coff_format}}
+use Rattle.oc_coff.specs.{Fields.{field_by, field_in, fields_in, relocates, says_nothing}, Rules.{dialect_by}, Head.{IsHeaded}}
 use Rattle.std.proofs.Common.{◌≡◌, ℕ, ◌⊎◌, inl, inr, Bool, true, false, cond, ℤ, List, Option, None, Some, refl, sym, ◌∙◌, ap, subst}
-use Rattle.std.specs.Prelude.{not, nat_eq, find, slice_get}
-use Rattle.std.specs.Option.{option_and_then, option_map, unwrap_or}
-use Rattle.std.proofs.lemmas.Bool.{eqb-true, and_parts}
-use Rattle.std.proofs.lemmas.Option.{slice_get-map}
+use Rattle.std.specs.{Prelude.{not, nat_eq, find, slice_get}, Option.{option_and_then, option_map, unwrap_or}}
+use Rattle.std.proofs.lemmas.{Bool.{eqb-true, and_parts}, Option.{slice_get-map}}
 use Rattle.oc_base.specs.declared.format.Word.{Word}
-use Rattle.oc_linking.specs.declared.terms.Keep.{Keep}
-use Rattle.oc_linking.specs.declared.terms.Value.{Value}
+use Rattle.oc_linking.specs.{declared.terms.Keep.{Keep}, declared.terms.Value.{Value}, Keeping.{keeps}, Rules.{Field}, Targets.{symbol_target}}
 use Rattle.oc_linking.specs.declared.terms.Value.TheVariants as value
-use Rattle.oc_linking.specs.Keeping.{keeps}
 use Rattle.oc_linking.specs.Parts as parts
-use Rattle.oc_linking.specs.Rules.{Field}
 use Rattle.oc_linking.specs.Targets as file
-use Rattle.oc_linking.specs.Targets.{symbol_target}
-use Rattle.oc_neutral.specs.declared.reloc.Reloc.{Reloc}
+use Rattle.oc_neutral.specs.{declared.reloc.Reloc.{Reloc}, Dialects.{is_kept, kept_fields}, Faces.{shown_symbols}, Normal.{moved_addend}, Objects.{Object}}
+use Rattle.oc_neutral.specs.{RelocTables.{row_of}, TargetRelocations.{is_homeless}, Rows.{Row}}
 use Rattle.oc_neutral.specs.declared.reloc.Target.TheVariants as target
-use Rattle.oc_shows.specs.Built.{IsField, IsFree, IsGiven}
-use Rattle.oc_shows.specs.Computed.{position_of}
-use Rattle.oc_neutral.specs.Dialects.{is_kept, kept_fields}
-use Rattle.oc_neutral.specs.Faces.{shown_symbols}
-use Rattle.oc_neutral.specs.Normal.{moved_addend}
-use Rattle.oc_neutral.specs.Objects.{Object}
-use Rattle.oc_neutral.specs.RelocTables.{row_of}
-use Rattle.oc_shows.specs.RowFields.{field_in_place, number_in, place_target, row_field}
+use Rattle.oc_shows.specs.{Built.{IsField, IsFree, IsGiven}, Computed.{position_of}, RowFields.{field_in_place, number_in, place_target, row_field}}
 use Rattle.oc_shows.specs.RowValues.{row_reloc}
-use Rattle.oc_neutral.specs.TargetRelocations.{is_homeless}
-use Rattle.oc_neutral.specs.Rows.{Row}
 use Rattle.oc_shows.proofs.RowFieldLaws.{rows_are_fields, section_rows_are_fields, symbol_is_target}
-use Rattle.oc_coff.specs.declared.relocation.Relocation.{Relocation}
-use Rattle.oc_coff.specs.Entries.{Entry, entries_in, entry_numbered}
-use Rattle.oc_coff.specs.Sections.{Carried, carried_in, sections_in}
-use Rattle.oc_coff.specs.Symbols.{is_own, symbol_of, symbols_in, value_of}
-use Rattle.oc_coff.specs.Targets.{Aim, aim_at, aim_by, aim_for, aim_in, target_in}
-use Rattle.oc_coff.specs.Forms.{coff_format}
-use Rattle.oc_coff.specs.Fields.{field_by, field_in, fields_in, relocates, says_nothing}
-use Rattle.oc_coff.specs.Rules.{dialect_by}
-use Rattle.oc_coff.specs.Head.{IsHeaded}
 use Rattle.oc_coff_read.specs.Given.{given_at, reloc_at, reloc_by, reloc_for, reloc_in, reloc_to, reloc_with}
-use Rattle.oc_coff_judge.proofs.EntryLemmas.{find_from}
-use Rattle.oc_coff_judge.proofs.NumberedSymbols.{symbol_stands}
+use Rattle.oc_coff_judge.proofs.{EntryLemmas.{find_from}, NumberedSymbols.{symbol_stands}}
 
 module _ (w : Word) (b : CoffFile) (head : IsHeaded b) (keep : Keep) (n : Object) (shown : shown_symbols n ≡ (dialect_by w b.shape).rules.symbols b.bytes keep) where
   -- a field and a relocation that is that field

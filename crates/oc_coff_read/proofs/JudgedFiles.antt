@@ -1,13 +1,8 @@
 -- The fault of a file is that of its header, or of what stands behind.
-use Rattle.oc_coff.specs.Files.{CoffFile}
+use Rattle.oc_coff.specs.{Files.{CoffFile}, HeaderFaults.{header_stage}, Rules.{fault_by, stages_of}}
 use Rattle.std.proofs.Common.{◌≡◌, Option, None, Some, ap}
-use Rattle.oc_base.specs.declared.format.Word.{Word}
-use Rattle.oc_base.specs.declared.fault.Fault.{Fault}
-use Rattle.oc_linking.specs.declared.terms.Keep.{Keep}
-use Rattle.oc_linking.specs.FirstFault.{first_fault, stage_fault}
-use Rattle.oc_linking.specs.Numbers.{or_else}
-use Rattle.oc_coff.specs.HeaderFaults.{header_stage}
-use Rattle.oc_coff.specs.Rules.{fault_by, stages_of}
+use Rattle.oc_base.specs.{declared.format.Word.{Word}, declared.fault.Fault.{Fault}}
+use Rattle.oc_linking.specs.{declared.terms.Keep.{Keep}, FirstFault.{first_fault, stage_fault}, Numbers.{or_else}}
 use Rattle.oc_coff_judge.specs.Relocs.{rest_stages}
 
 module _ (w : Word) (file : CoffFile) (keep : Keep) where

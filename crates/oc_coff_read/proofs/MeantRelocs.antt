@@ -1,46 +1,25 @@
 -- What the meaning of a type makes of an entry is what its row makes of it.
-use Rattle.oc_coff.specs.Files.{CoffFile, tables_in}
+use Rattle.oc_coff.specs.{Files.{CoffFile, tables_in}, declared.relocation.Relocation.{Relocation}, Tables.{Tables}}
+use Rattle.oc_coff.specs.{Entries.{Entry, entries_in, entry_numbered}, Forms.{coff_format}, Sections.{sections_in}}
+use Rattle.oc_coff.specs.{Symbols.{is_own, symbol_of, symbols_in, value_of}, Targets.{Aim, aim_at, aim_by, aim_for, aim_in}, declared.meaning.Meaning.{Meaning}}
+use Rattle.oc_coff.specs.{Head.{IsHeaded}, Meanings.{meaning_of, meant_by}}
 use Rattle.std.proofs.Common.{◌≡◌, ℕ, ◌<◌, length, Bool, true, false, cond, List, Option, None, Some, refl, sym, ◌∙◌, ap, subst}
-use Rattle.std.specs.Prelude.{ℤ, ◌+ℤ◌, nat_eq}
-use Rattle.std.specs.Option.{option_and_then, option_map}
-use Rattle.std.proofs.lemmas.Bool.{eqb-true, true≢false}
-use Rattle.std.proofs.lemmas.Option.{none-some, same_Some}
+use Rattle.std.specs.{Prelude.{ℤ, ◌+ℤ◌, nat_eq}, Option.{option_and_then, option_map}}
+use Rattle.std.proofs.lemmas.{Bool.{eqb-true, true≢false}, Option.{none-some, same_Some}}
 use Rattle.oc_base.specs.declared.format.Word.{Word}
-use Rattle.oc_linking.specs.declared.terms.Hint.{Hint}
-use Rattle.oc_linking.specs.declared.terms.Hint.TheVariants.{Plain, Call}
-use Rattle.oc_linking.specs.declared.terms.Less.{Less}
-use Rattle.oc_linking.specs.declared.terms.Value.{Value}
+use Rattle.oc_linking.specs.{declared.terms.Hint.{Hint}, declared.terms.Hint.TheVariants.{Plain, Call}, declared.terms.Less.{Less}}
+use Rattle.oc_linking.specs.{declared.terms.Value.{Value}, Targets.{symbol_target}}
 use Rattle.oc_linking.specs.declared.terms.Value.TheVariants as value
 use Rattle.oc_linking.specs.Parts as parts
 use Rattle.oc_linking.specs.Targets as file
-use Rattle.oc_linking.specs.Targets.{symbol_target}
-use Rattle.oc_algebra.specs.Fields.{from_field_of}
-use Rattle.oc_algebra.specs.Residues.{reduced_number}
-use Rattle.oc_neutral.specs.declared.reloc.Reloc.{Reloc}
-use Rattle.oc_neutral.specs.declared.reloc.Target.{Target}
+use Rattle.oc_algebra.specs.{Fields.{from_field_of}, Residues.{reduced_number}}
+use Rattle.oc_neutral.specs.{declared.reloc.Reloc.{Reloc}, declared.reloc.Target.{Target}, Normal.{moved_addend}, RelocTables.{row_of}}
+use Rattle.oc_neutral.specs.{Rows.{Row, less_of, same_hint, shift_of}, TargetRelocations.{is_homeless}}
 use Rattle.oc_neutral.specs.declared.reloc.Target.TheVariants as target
-use Rattle.oc_shows.specs.Computed.{position_of}
-use Rattle.oc_neutral.specs.Normal.{moved_addend}
-use Rattle.oc_neutral.specs.RelocTables.{row_of}
-use Rattle.oc_shows.specs.RowFields.{number_in}
-use Rattle.oc_neutral.specs.Rows.{Row, less_of, same_hint, shift_of}
-use Rattle.oc_shows.specs.RowValues.{row_reloc}
-use Rattle.oc_neutral.specs.TargetRelocations.{is_homeless}
-use Rattle.oc_neutral.proofs.MovedAddends.{moved_reduced}
-use Rattle.oc_neutral.proofs.Positions.{each_at}
-use Rattle.oc_coff.specs.declared.relocation.Relocation.{Relocation}
-use Rattle.oc_coff.specs.Tables.{Tables}
-use Rattle.oc_coff.specs.Entries.{Entry, entries_in, entry_numbered}
-use Rattle.oc_coff.specs.Forms.{coff_format}
-use Rattle.oc_coff.specs.Sections.{sections_in}
-use Rattle.oc_coff.specs.Symbols.{is_own, symbol_of, symbols_in, value_of}
-use Rattle.oc_coff.specs.Targets.{Aim, aim_at, aim_by, aim_for, aim_in}
-use Rattle.oc_coff.specs.declared.meaning.Meaning.{Meaning}
+use Rattle.oc_shows.specs.{Computed.{position_of}, RowFields.{number_in}, RowValues.{row_reloc}}
+use Rattle.oc_neutral.proofs.{MovedAddends.{moved_reduced}, Positions.{each_at}}
 use Rattle.oc_coff_read.specs.Given.{IsAimed, addend_by, place_meant, reloc_as, reloc_at, reloc_by, reloc_for, reloc_meant, reloc_to, reloc_with, symbol_meant}
-use Rattle.oc_coff.specs.Head.{IsHeaded}
-use Rattle.oc_coff.specs.Meanings.{meaning_of, meant_by}
-use Rattle.oc_coff_judge.specs.Numbered.{entry_by}
-use Rattle.oc_coff_judge.specs.Tagged.{carried_position}
+use Rattle.oc_coff_judge.specs.{Numbered.{entry_by}, Tagged.{carried_position}}
 use Rattle.oc_coff_judge.proofs.EntryLemmas.{IsEntry, entries_sound, find_from}
 use Rattle.oc_coff_read.proofs.RowLemmas.{IsMeant, IsRow, is_row, meant_none, meant_some, takes_same}
 

@@ -1,34 +1,21 @@
 -- The default of a weak external that is a symbol of other files is carried.
 use Rattle.std.proofs.Common.{◌≡◌, ℕ, zero, suc, ◌<◌, Bool, true, false, cond, eqb, List, [], ◌∷◌, length, take, Option, None, Some, refl, sym, ◌∙◌, ap, subst, arith}
-use Rattle.std.specs.Prelude.{not, ◌&&◌, ◌||◌, nat_eq, nat_lt, nat_le, is_none, is_some, slice_get}
-use Rattle.std.specs.Option.{option_and_then, option_map, option_map_or}
-use Rattle.std.proofs.lemmas.Bool.{eq-eqb, eqb-true, true≢false}
-use Rattle.std.proofs.lemmas.Bool.Decides.{nat_tests}
-use Rattle.std.proofs.lemmas.Option.{none-some, same_Some}
-use Rattle.oc_linking.specs.declared.terms.Binding.{Binding}
-use Rattle.oc_linking.specs.declared.terms.Binding.TheVariants.{Local, Global, Undefined, Common, Weak}
-use Rattle.oc_linking.specs.declared.terms.Fallback.{Fallback}
+use Rattle.std.specs.{Prelude.{not, ◌&&◌, ◌||◌, nat_eq, nat_lt, nat_le, is_none, is_some, slice_get}, Option.{option_and_then, option_map, option_map_or}}
+use Rattle.std.proofs.lemmas.{Bool.{eq-eqb, eqb-true, true≢false}, Bool.Decides.{nat_tests}, Option.{none-some, same_Some}}
+use Rattle.oc_linking.specs.{declared.terms.Binding.{Binding}, declared.terms.Binding.TheVariants.{Local, Global, Undefined, Common, Weak}}
+use Rattle.oc_linking.specs.{declared.terms.Fallback.{Fallback}, declared.terms.Value.{Value}, FirstFault.{stage_fault}, Values.{numbered}}
 use Rattle.oc_linking.specs.declared.terms.Fallback.TheVariants as fallback
-use Rattle.oc_linking.specs.declared.terms.Value.{Value}
 use Rattle.oc_linking.specs.declared.terms.Value.TheVariants as value
-use Rattle.oc_linking.specs.FirstFault.{stage_fault}
 use Rattle.oc_linking.specs.Parts as parts
-use Rattle.oc_linking.specs.Values.{numbered}
 use Rattle.oc_neutral.specs.Powers.{natural_align}
-use Rattle.oc_shelf.proofs.ReadingLaws.CollectedLemmas.{IsFrom, collected-from}
-use Rattle.oc_shelf.proofs.WritingLaws.MemberLemmas.{member_filter_map}
+use Rattle.oc_shelf.proofs.{ReadingLaws.CollectedLemmas.{IsFrom, collected-from}, WritingLaws.MemberLemmas.{member_filter_map}}
 use Rattle.oc_coff.specs.declared.constants.TheConstants.{IMAGE_SYM_SECTION_MAX_EX, IMAGE_SYM_ABSOLUTE, IMAGE_SYM_DEBUG, IMAGE_SYM_CLASS_EXTERNAL, IMAGE_SYM_CLASS_LABEL, IMAGE_SYM_CLASS_STATIC, IMAGE_SYM_CLASS_WEAK_EXTERNAL}
-use Rattle.oc_coff.specs.declared.symbol.SymbolEntry.{SymbolEntry}
-use Rattle.oc_coff.specs.Tables.{Tables}
-use Rattle.oc_coff.specs.Names.{is_nothing}
-use Rattle.oc_coff.specs.Entries.{Entry, entries_in, entry_numbered, has_section, is_class, name_of}
-use Rattle.oc_coff.specs.Sections.{position_of, sections_in}
+use Rattle.oc_coff.specs.{declared.symbol.SymbolEntry.{SymbolEntry}, Tables.{Tables}, Names.{is_nothing}}
+use Rattle.oc_coff.specs.{Entries.{Entry, entries_in, entry_numbered, has_section, is_class, name_of}, Sections.{position_of, sections_in}}
 use Rattle.oc_coff.specs.Symbols.{binding_of, external_binding, fallback_at, fallback_by, is_own, local_binding, symbol_of, symbol_with, symbols_in, tag_of, tagged_by, value_of, weak_binding}
 use Rattle.oc_coff.specs.SymbolFaults.{can_be_tagged, is_uncarried, symbol_stage}
 use Rattle.oc_coff_judge.specs.Led.{symbol_at}
-use Rattle.oc_coff_judge.proofs.CollectLemmas.{symbols_are}
-use Rattle.oc_coff_judge.proofs.EntryLemmas.{find_from}
-use Rattle.oc_coff_judge.proofs.NumberedSymbols.{IsAt, stands_at}
+use Rattle.oc_coff_judge.proofs.{CollectLemmas.{symbols_are}, EntryLemmas.{find_from}, NumberedSymbols.{IsAt, stands_at}}
 use Rattle.oc_coff_judge.proofs.SoundSymbols.{IsSoundSymbol, sound_symbol}
 use Rattle.oc_coff_read.proofs.StartedFile.{AreNamed}
 

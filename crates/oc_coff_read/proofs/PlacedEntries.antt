@@ -1,14 +1,10 @@
 -- The entries of a table, in the order of their places.
 use Rattle.std.proofs.Common.{◌≡◌, ℕ, ◌<◌, Bool, true, false, cond, List, length, None, Some, refl, sym, ◌∙◌, ap, subst, get_or}
-use Rattle.std.specs.Prelude.{slice_get}
-use Rattle.std.specs.List.Sorted.{IsPermutation}
+use Rattle.std.specs.{Prelude.{slice_get}, List.Sorted.{IsPermutation}}
 use Rattle.std.proofs.lemmas.Option.{none-some, same_Some, get_or_from_slice_get, slice_get-get_or, slice_get_within}
-use Rattle.oc_shelf.specs.declared.reading.order.PlacedEntry.{PlacedEntry}
-use Rattle.oc_shelf.specs.Reading.Collected.{collected}
-use Rattle.oc_shelf.specs.Reading.Order.{is_among}
+use Rattle.oc_shelf.specs.{declared.reading.order.PlacedEntry.{PlacedEntry}, Reading.Collected.{collected}, Reading.Order.{is_among}}
 use Rattle.oc_shelf.proofs.ReadingLaws.PlacedLemmas.{among_all, each_placed}
-use Rattle.oc_coff.specs.declared.relocation.Relocation.{Relocation}
-use Rattle.oc_coff.specs.Fields.{says_nothing}
+use Rattle.oc_coff.specs.{declared.relocation.Relocation.{Relocation}, Fields.{says_nothing}}
 use Rattle.oc_coff_read.specs.Given.{entry_in, placed, placed_as}
 
 -- entry k of a table stands there

@@ -1,38 +1,22 @@
 -- The sections of a file have names and tags that reading can give.
-use Rattle.oc_coff.specs.declared.form.Shape.{Shape}
-use Rattle.oc_coff.specs.declared.form.Shape.TheVariants.{Usual, Big}
-use Rattle.oc_coff.specs.Files.{CoffFile, tables_in}
+use Rattle.oc_coff.specs.{declared.form.Shape.{Shape}, declared.form.Shape.TheVariants.{Usual, Big}, Files.{CoffFile, tables_in}, Tables.{Tables}}
+use Rattle.oc_coff.specs.{Forms.{format_by}, Names.{decimal_of, is_digit, is_nothing, name_for, section_name, string_at, until_nul}}
+use Rattle.oc_coff.specs.Sections.{kind_in, sections_in}
 use Rattle.std.proofs.Common.{◌≡◌, ℕ, suc, ◌+◌, ◌/◌, ◌%◌, ◌^◌, ◌<◌, ◌≤◌, Bool, true, false, cond, eqb, List, [], ◌∷◌, drop, take, Option, None, Some, refl, sym, ◌∙◌, ap, subst, arith, length}
-use Rattle.std.specs.Prelude.{not, ◌&&◌, ◌||◌, nat_eq, nat_le, nat_lt, codes, slice_get}
-use Rattle.std.specs.List.{before_first, list_all, position_or_len}
+use Rattle.std.specs.{Prelude.{not, ◌&&◌, ◌||◌, nat_eq, nat_le, nat_lt, codes, slice_get}, List.{before_first, list_all, position_or_len}}
 use Rattle.std.specs.Option.{option_and_then, option_map, option_map_or, unwrap_or}
-use Rattle.std.proofs.lemmas.Bool.{eq-eqb, ne_eqb, true≢false}
-use Rattle.std.proofs.lemmas.Bool.Decides.{nat_tests}
-use Rattle.std.proofs.lemmas.Option.{none-some, same_Some}
-use Rattle.oc_base.specs.declared.format.Word.{Word}
-use Rattle.oc_base.specs.declared.format.Word.TheVariants.{W32, W64}
-use Rattle.oc_linking.specs.declared.terms.Kind.{Kind}
-use Rattle.oc_linking.specs.declared.terms.Kind.TheVariants.{Code, ReadOnly, Data, Zero, Init, Fini, Debug, Exception, Note}
+use Rattle.std.proofs.lemmas.{Bool.{eq-eqb, ne_eqb, true≢false}, Bool.Decides.{nat_tests}, Option.{none-some, same_Some}}
+use Rattle.oc_base.specs.{declared.format.Word.{Word}, declared.format.Word.TheVariants.{W32, W64}}
+use Rattle.oc_linking.specs.{declared.terms.Kind.{Kind}, declared.terms.Kind.TheVariants.{Code, ReadOnly, Data, Zero, Init, Fini, Debug, Exception, Note}}
 use Rattle.oc_linking.specs.Parts as parts
-use Rattle.oc_neutral.specs.declared.section.Section.{Section}
-use Rattle.oc_neutral.specs.Coff.Family.{coff_gives}
-use Rattle.oc_neutral.specs.Coff.Kinds.{coff_kind, coff_tag, is_unwind_name}
-use Rattle.oc_neutral.specs.GivenTags.{can_have, is_blank_type}
-use Rattle.oc_neutral.specs.Invariants.{AreBytes}
-use Rattle.oc_neutral.specs.KindRules.{begins, first_rule, has_nul, same_kind}
-use Rattle.oc_shows.specs.Readable.{IsReadable}
-use Rattle.oc_shows.specs.Started.{stored_section}
+use Rattle.oc_neutral.specs.{declared.section.Section.{Section}, Coff.Family.{coff_gives}, Coff.Kinds.{coff_kind, coff_tag, is_unwind_name}}
+use Rattle.oc_neutral.specs.{GivenTags.{can_have, is_blank_type}, Invariants.{AreBytes}, KindRules.{begins, first_rule, has_nul, same_kind}}
+use Rattle.oc_shows.specs.{Readable.{IsReadable}, Started.{stored_section}}
 use Rattle.oc_shelf.specs.Reading.Texts.{text_at, text_within}
 use Rattle.oc_shelf.proofs.ReadingLaws.CollectedLemmas.{IsFrom, all_mapped}
-use Rattle.oc_coff.specs.Tables.{Tables}
-use Rattle.oc_coff.specs.Forms.{format_by}
-use Rattle.oc_coff.specs.Names.{decimal_of, is_digit, is_nothing, name_for, section_name, string_at, until_nul}
-use Rattle.oc_coff.specs.Sections.{kind_in, sections_in}
-use Rattle.oc_coff_read.specs.Adding.{started}
-use Rattle.oc_coff_read.specs.Built.{keys_of}
+use Rattle.oc_coff_read.specs.{Adding.{started}, Built.{keys_of}}
 use Rattle.oc_coff_judge.specs.Led.{section_at}
-use Rattle.oc_coff_read.proofs.ByteLemmas.{header_small}
-use Rattle.oc_coff_read.proofs.WholeSymbols.{IsOf, section_by}
+use Rattle.oc_coff_read.proofs.{ByteLemmas.{header_small}, WholeSymbols.{IsOf, section_by}}
 use Rattle.oc_coff_judge.proofs.PlacedLemmas.{section_from}
 use Rattle.oc_neutral.proofs.GivenLaws.{same_kind-self, coff_kind-tag}
 

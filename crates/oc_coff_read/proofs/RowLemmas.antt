@@ -1,19 +1,13 @@
 -- The rows of COFF: none takes a section, and none has a hint.
 use Rattle.std.proofs.Common.{◌≡◌, ℕ, Bool, true, false, ◌≤◌, Option, None, Some, refl, sym, ◌∙◌, ap}
-use Rattle.std.specs.Prelude.{not, ◌&&◌, nat_eq}
-use Rattle.std.specs.Option.{option_map}
-use Rattle.std.proofs.lemmas.Bool.{true≢false}
-use Rattle.std.proofs.lemmas.Option.{none-some, same_Some}
-use Rattle.oc_base.specs.declared.format.Word.{Word}
-use Rattle.oc_base.specs.declared.format.Word.TheVariants.{W32, W64}
-use Rattle.oc_linking.specs.declared.terms.Hint.{Hint}
-use Rattle.oc_linking.specs.declared.terms.Hint.TheVariants.{Plain, Call}
+use Rattle.std.specs.{Prelude.{not, ◌&&◌, nat_eq}, Option.{option_map}}
+use Rattle.std.proofs.lemmas.{Bool.{true≢false}, Option.{none-some, same_Some}}
+use Rattle.oc_base.specs.{declared.format.Word.{Word}, declared.format.Word.TheVariants.{W32, W64}}
+use Rattle.oc_linking.specs.{declared.terms.Hint.{Hint}, declared.terms.Hint.TheVariants.{Plain, Call}}
 use Rattle.oc_linking.specs.declared.terms.Less.TheVariants as less
 use Rattle.oc_neutral.specs.Rows.{Row, Taken, TakesZero, TakesPlace, TakesGotBase, TakesImageBase, TakesHome, TakesSection, less_of, same_hint, same_taken}
 use Rattle.oc_neutral.specs.RelocTables.{row_of, rows_of}
-use Rattle.oc_coff.specs.Forms.{coff_format}
-use Rattle.oc_coff.specs.declared.meaning.Meaning.{Meaning}
-use Rattle.oc_coff.specs.Meanings.{meaning_of, meant_by}
+use Rattle.oc_coff.specs.{Forms.{coff_format}, declared.meaning.Meaning.{Meaning}, Meanings.{meaning_of, meant_by}}
 use Rattle.oc_shelf.proofs.ReadingLaws.PassLemmas.{all_pass, found_passes}
 
 -- ... what holds of each row

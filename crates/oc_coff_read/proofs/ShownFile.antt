@@ -1,44 +1,23 @@
 -- A file without faults shows what is built of it, which can be finished and read.
-use Rattle.oc_coff.specs.Files.{CoffFile, tables_in}
+use Rattle.oc_coff.specs.{Files.{CoffFile, tables_in}, HeaderFaults.{header_stage}, RelocationFaults.{relocation_stage}}
+use Rattle.oc_coff.specs.{Rules.{dialect_by, fault_by, stages_of}, SectionFaults.{section_stage}, SymbolFaults.{symbol_stage}, Symbols.{symbols_in}}
+use Rattle.oc_coff.specs.Head.{IsHeaded}
 use Rattle.std.proofs.Common.{◌≡◌, ℕ, ◌<◌, length, Option, None, Some, refl, sym, ◌∙◌, ap, subst}
 use Rattle.std.specs.Prelude.{slice_get}
-use Rattle.std.proofs.lemmas.Bool.{true≢false}
-use Rattle.std.proofs.lemmas.Option.{none-some}
-use Rattle.oc_base.specs.declared.format.Word.{Word}
-use Rattle.oc_linking.specs.declared.terms.Keep.{Keep}
-use Rattle.oc_linking.specs.FirstFault.{first_fault, stage_fault}
-use Rattle.oc_linking.specs.Numbers.{or_else}
-use Rattle.oc_base.specs.declared.fault.Fault.{Fault}
-use Rattle.oc_neutral.specs.declared.reloc.Reloc.{Reloc}
-use Rattle.oc_neutral.specs.declared.reloc.Target.{Target}
-use Rattle.oc_neutral.specs.declared.reloc.Target.TheVariants as target
-use Rattle.oc_neutral.specs.Building.{Draft}
-use Rattle.oc_shows.specs.Built.{HasAdded, IsStarted}
-use Rattle.oc_shows.specs.Finished.{AreFinal}
+use Rattle.std.proofs.lemmas.{Bool.{true≢false}, Option.{none-some}}
+use Rattle.oc_base.specs.{declared.format.Word.{Word}, declared.fault.Fault.{Fault}}
+use Rattle.oc_linking.specs.{declared.terms.Keep.{Keep}, FirstFault.{first_fault, stage_fault}, Numbers.{or_else}}
+use Rattle.oc_neutral.specs.{declared.reloc.Reloc.{Reloc}, declared.reloc.Target.{Target}, Building.{Draft}}
 use Rattle.oc_neutral.specs.Invariants.{AreBytes, IsComplete, IsDraft, NamesOriginal}
-use Rattle.oc_shows.specs.Readable.{IsReadable}
-use Rattle.oc_shows.specs.Shows.{Shows}
+use Rattle.oc_neutral.specs.declared.reloc.Target.TheVariants as target
+use Rattle.oc_shows.specs.{Built.{HasAdded, IsStarted}, Finished.{AreFinal}, Readable.{IsReadable}, Shows.{Shows}}
 use Rattle.oc_shows.proofs.BuiltWhole.{built_is_complete, built_is_readable}
-use Rattle.oc_coff.specs.HeaderFaults.{header_stage}
-use Rattle.oc_coff.specs.RelocationFaults.{relocation_stage}
-use Rattle.oc_coff.specs.Rules.{dialect_by, fault_by, stages_of}
-use Rattle.oc_coff.specs.SectionFaults.{section_stage}
-use Rattle.oc_coff.specs.SymbolFaults.{symbol_stage}
-use Rattle.oc_coff.specs.Symbols.{symbols_in}
-use Rattle.oc_coff_read.specs.Adding.{started}
-use Rattle.oc_coff_read.specs.Given.{given_at}
-use Rattle.oc_coff.specs.Head.{IsHeaded}
+use Rattle.oc_coff_read.specs.{Adding.{started}, Given.{given_at}, Shown.{CleanIsShown}}
 use Rattle.oc_coff_judge.specs.Relocs.{rest_stages}
-use Rattle.oc_coff_read.specs.Shown.{CleanIsShown}
-use Rattle.oc_coff_read.proofs.AddedSymbols.{narrow}
-use Rattle.oc_coff_read.proofs.CompleteLemmas.{complete}
-use Rattle.oc_coff_read.proofs.NamedDefaults.{are_named}
-use Rattle.oc_coff_judge.proofs.NumberedSymbols.{symbol_stands}
-use Rattle.oc_coff_read.proofs.ReadableLemmas.{blank_is, readable}
-use Rattle.oc_coff_read.proofs.RowLemmas.{is_row, no_call}
-use Rattle.oc_coff_read.proofs.StandingFields.{IsStanding, form_of, given_standing}
-use Rattle.oc_coff_read.proofs.StartedFile.{built_is_shown, is_started}
+use Rattle.oc_coff_read.proofs.{AddedSymbols.{narrow}, CompleteLemmas.{complete}, NamedDefaults.{are_named}, ReadableLemmas.{blank_is, readable}}
+use Rattle.oc_coff_read.proofs.{RowLemmas.{is_row, no_call}, StandingFields.{IsStanding, form_of, given_standing}, StartedFile.{built_is_shown, is_started}}
 use Rattle.oc_coff_read.proofs.WholeSymbols.{original_there}
+use Rattle.oc_coff_judge.proofs.NumberedSymbols.{symbol_stands}
 
 -- ... stages
 

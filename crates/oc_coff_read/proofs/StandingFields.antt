@@ -1,47 +1,25 @@
 -- The fields of a file without faults, each with the relocation that is given for it.
-use Rattle.oc_coff.specs.Files.{CoffFile, tables_in}
+use Rattle.oc_coff.specs.{Files.{CoffFile, tables_in}, declared.relocation.Relocation.{Relocation}, Entries.{Entry, entries_in, entry_numbered}}
+use Rattle.oc_coff.specs.{Sections.{Carried, carried_in, sections_in}, Symbols.{is_own, symbol_of, symbols_in, value_of}, Targets.{Aim, target_in}}
+use Rattle.oc_coff.specs.{Forms.{coff_format}, Fields.{field_by, field_in, fields_in, relocates, says_nothing}, RelocationFaults.{relocation_stage}}
+use Rattle.oc_coff.specs.{Rules.{dialect_by}, Head.{IsHeaded}}
 use Rattle.std.proofs.Common.{◌≡◌, ℕ, ◌+◌, ◌≤◌, Bool, true, false, cond, ℤ, List, Option, None, Some, refl, sym, ◌∙◌, ap, subst, arith}
-use Rattle.std.specs.Prelude.{find, slice_get}
-use Rattle.std.specs.Option.{option_map, option_and_then}
+use Rattle.std.specs.{Prelude.{find, slice_get}, Option.{option_map, option_and_then}}
 use Rattle.std.proofs.lemmas.Option.{none-some, same_Some}
 use Rattle.oc_base.specs.declared.format.Word.{Word}
-use Rattle.oc_linking.specs.declared.terms.Keep.{Keep}
-use Rattle.oc_linking.specs.declared.terms.Value.{Value}
+use Rattle.oc_linking.specs.{declared.terms.Keep.{Keep}, declared.terms.Value.{Value}, FirstFault.{stage_fault}, Fits.{bytes_of}, Keeping.{keeps}}
+use Rattle.oc_linking.specs.{Rules.{Field}, Targets.{symbol_target}}
 use Rattle.oc_linking.specs.declared.terms.Value.TheVariants as value
-use Rattle.oc_linking.specs.FirstFault.{stage_fault}
-use Rattle.oc_linking.specs.Fits.{bytes_of}
-use Rattle.oc_linking.specs.Keeping.{keeps}
 use Rattle.oc_linking.specs.Parts as parts
-use Rattle.oc_linking.specs.Rules.{Field}
 use Rattle.oc_linking.specs.Targets as file
-use Rattle.oc_linking.specs.Targets.{symbol_target}
-use Rattle.oc_neutral.specs.declared.reloc.Reloc.{Reloc}
-use Rattle.oc_neutral.specs.declared.reloc.Target.{Target}
+use Rattle.oc_neutral.specs.{declared.reloc.Reloc.{Reloc}, declared.reloc.Target.{Target}, Dialects.{kept_fields}, Faces.{shown_symbols}, Normal.{moved_addend}}
+use Rattle.oc_neutral.specs.{Objects.{Object}, RelocTables.{row_of}, Rows.{Row, less_of}}
 use Rattle.oc_neutral.specs.declared.reloc.Target.TheVariants as target
-use Rattle.oc_shows.specs.Built.{AreApart, AreOfFile, DifferencesFit, IsField}
-use Rattle.oc_shows.specs.Computed.{position_of}
-use Rattle.oc_neutral.specs.Dialects.{kept_fields}
-use Rattle.oc_neutral.specs.Faces.{shown_symbols}
-use Rattle.oc_neutral.specs.Normal.{moved_addend}
-use Rattle.oc_neutral.specs.Objects.{Object}
-use Rattle.oc_neutral.specs.RelocTables.{row_of}
-use Rattle.oc_shows.specs.RowFields.{field_in_place, number_in}
-use Rattle.oc_neutral.specs.Rows.{Row, less_of}
+use Rattle.oc_shows.specs.{Built.{AreApart, AreOfFile, DifferencesFit, IsField}, Computed.{position_of}, RowFields.{field_in_place, number_in}}
 use Rattle.oc_shows.specs.RowValues.{row_reloc}
-use Rattle.oc_coff.specs.declared.relocation.Relocation.{Relocation}
-use Rattle.oc_coff.specs.Entries.{Entry, entries_in, entry_numbered}
-use Rattle.oc_coff.specs.Sections.{Carried, carried_in, sections_in}
-use Rattle.oc_coff.specs.Symbols.{is_own, symbol_of, symbols_in, value_of}
-use Rattle.oc_coff.specs.Targets.{Aim, target_in}
-use Rattle.oc_coff.specs.Forms.{coff_format}
-use Rattle.oc_coff.specs.Fields.{field_by, field_in, fields_in, relocates, says_nothing}
-use Rattle.oc_coff.specs.RelocationFaults.{relocation_stage}
-use Rattle.oc_coff.specs.Rules.{dialect_by}
-use Rattle.oc_coff.specs.Head.{IsHeaded}
 use Rattle.oc_coff_read.specs.Given.{given_at, reloc_at, reloc_by, reloc_for, reloc_in, reloc_to, reloc_with}
 use Rattle.oc_coff_judge.proofs.EntryLemmas.{find_from}
-use Rattle.oc_coff_read.proofs.FoundEntries.{IsGood, apart_at, first_is, found_at, good_entry}
-use Rattle.oc_coff_read.proofs.GivenFields.{flag, free_or_given}
+use Rattle.oc_coff_read.proofs.{FoundEntries.{IsGood, apart_at, first_is, found_at, good_entry}, GivenFields.{flag, free_or_given}}
 use Rattle.oc_coff_read.proofs.RowLemmas.{is_row, takes_none}
 use Rattle.oc_shows.proofs.GivenLaws as laws
 

@@ -1,45 +1,25 @@
 -- What is built of a file before its relocations is what the file starts with.
 use Rattle.oc_shelf.specs.Reading.Collected.{collected}
-use Rattle.oc_coff.specs.Tables.{tables_of, SectionTable, Tables}
-use Rattle.oc_coff.specs.declared.form.Shape.{Shape}
-use Rattle.oc_coff.specs.declared.form.Shape.TheVariants.{Usual, Big}
-use Rattle.oc_coff.specs.Files.{CoffFile, tables_in}
+use Rattle.oc_coff.specs.{Tables.{tables_of, SectionTable, Tables}, declared.form.Shape.{Shape}, declared.form.Shape.TheVariants.{Usual, Big}}
+use Rattle.oc_coff.specs.{Files.{CoffFile, tables_in}, Entries.{entries_in}, Forms.{format_by}, Rules.{dialect_by}}
+use Rattle.oc_coff.specs.{Sections.{Carried, carried_of, is_stored, kind_in, section_of, sections_in}, Symbols.{symbols_in}, Head.{IsHeaded}}
 use Rattle.std.proofs.Common.{◌≡◌, ℕ, ◌+◌, Bool, true, false, cond, List, [], length, map, replicate, Option, None, Some, refl, sym, ◌∙◌, ap, subst}
-use Rattle.std.specs.Prelude.{not, ◌&&◌, nat_eq, is_some, slice_get}
-use Rattle.std.specs.Option.{option_and_then, option_map}
-use Rattle.std.proofs.lemmas.Bool.{true≢false}
-use Rattle.std.proofs.lemmas.Option.{none-some, same_Some}
-use Rattle.oc_base.specs.declared.format.Word.{Word}
-use Rattle.oc_base.specs.declared.format.Word.TheVariants.{W32, W64}
-use Rattle.oc_base.specs.Formats.{word_for}
-use Rattle.oc_linking.specs.declared.terms.Binding.TheVariants.{Weak}
+use Rattle.std.specs.{Prelude.{not, ◌&&◌, nat_eq, is_some, slice_get}, Option.{option_and_then, option_map}}
+use Rattle.std.proofs.lemmas.{Bool.{true≢false}, Option.{none-some, same_Some}}
+use Rattle.oc_base.specs.{declared.format.Word.{Word}, declared.format.Word.TheVariants.{W32, W64}, Formats.{word_for}}
+use Rattle.oc_linking.specs.{declared.terms.Binding.TheVariants.{Weak}, declared.terms.Keep.{Keep}, declared.terms.Kind.{Kind}}
+use Rattle.oc_linking.specs.{declared.terms.Kind.TheVariants.{Code, ReadOnly, Data, Zero, Init, Fini, Debug, Exception, Note}, Values.{numbered}}
 use Rattle.oc_linking.specs.declared.terms.Fallback.TheVariants as fallback
-use Rattle.oc_linking.specs.declared.terms.Keep.{Keep}
-use Rattle.oc_linking.specs.declared.terms.Kind.{Kind}
-use Rattle.oc_linking.specs.declared.terms.Kind.TheVariants.{Code, ReadOnly, Data, Zero, Init, Fini, Debug, Exception, Note}
 use Rattle.oc_linking.specs.Parts as parts
-use Rattle.oc_linking.specs.Values.{numbered}
-use Rattle.oc_neutral.specs.Building.{Draft, is_zero}
-use Rattle.oc_shows.specs.Built.{HasAdded, IsStarted}
-use Rattle.oc_shows.specs.Computed.{computed_symbol, keys_after}
-use Rattle.oc_neutral.specs.Invariants.{IsDraft}
-use Rattle.oc_shows.specs.Shows.{Shows}
+use Rattle.oc_neutral.specs.{Building.{Draft, is_zero}, Invariants.{IsDraft}}
+use Rattle.oc_shows.specs.{Built.{HasAdded, IsStarted}, Computed.{computed_symbol, keys_after}, Shows.{Shows}}
 use Rattle.oc_shows.specs.Started.{AreShowable, groups_by, plain_draft, start_of, stored_section}
-use Rattle.oc_shows.proofs.BuiltLaws.{built_shows}
-use Rattle.oc_shows.proofs.StartedLaws.{start_is_started}
+use Rattle.oc_shows.proofs.{BuiltLaws.{built_shows}, StartedLaws.{start_is_started}}
 use Rattle.oc_shelf.proofs.ReadingLaws.CollectedLemmas.{IsFrom, collected-from}
-use Rattle.oc_coff.specs.Entries.{entries_in}
-use Rattle.oc_coff.specs.Forms.{format_by}
-use Rattle.oc_coff.specs.Rules.{dialect_by}
-use Rattle.oc_coff.specs.Sections.{Carried, carried_of, is_stored, kind_in, section_of, sections_in}
-use Rattle.oc_coff.specs.Symbols.{symbols_in}
-use Rattle.oc_coff.specs.Head.{IsHeaded}
 use Rattle.oc_coff_judge.specs.Led.{carried_at, section_at, symbol_at}
-use Rattle.oc_coff_read.specs.Built.{keys_of, symboled}
-use Rattle.oc_coff_read.specs.Given.{given_at}
-use Rattle.oc_coff_judge.proofs.CollectLemmas.{sections_are, symbols_are}
+use Rattle.oc_coff_read.specs.{Built.{keys_of, symboled}, Given.{given_at}}
+use Rattle.oc_coff_judge.proofs.{CollectLemmas.{sections_are, symbols_are}, NumberedSymbols.{symbols_numbered}}
 use Rattle.oc_coff_read.proofs.GivenFields.{free_or_given}
-use Rattle.oc_coff_judge.proofs.NumberedSymbols.{symbols_numbered}
 
 -- a section of zeros holds zeros
 zeros_by : (t : Tables) (k : ℕ) (x : SectionTable) (kind : Kind) → is_zero kind ≡ true → (section_of t k x kind).contents ≡ replicate (section_of t k x kind).size 0

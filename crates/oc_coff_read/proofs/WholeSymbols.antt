@@ -1,56 +1,34 @@
 -- The symbols of a file without faults speak of things that are there.
-use Rattle.oc_coff.specs.declared.form.Shape.{Shape}
-use Rattle.oc_coff.specs.declared.form.Shape.TheVariants.{Usual, Big}
-use Rattle.oc_coff.specs.Files.{CoffFile, tables_in}
-use Rattle.std.proofs.Common.{◌≡◌, ◌≢◌, ℕ, ◌+◌, ◌-◌, ◌<◌, ◌≤◌, ◌^◌, Bool, true, false, cond, List, [], length, map, Option, None, Some, refl, sym, ◌∙◌, ap, subst, arith, get_or}
-use Rattle.std.specs.Prelude.{◌&&◌, ◌||◌, nat_eq, nat_le, nat_lt, slice_get}
-use Rattle.std.specs.Option.{option_and_then, option_map, option_map_or, unwrap_or}
-use Rattle.std.proofs.lemmas.Bool.{ne_eqb, true≢false}
-use Rattle.std.proofs.lemmas.Bool.Decides.{nat_tests}
-use Rattle.std.proofs.lemmas.Option.{none-some, same_Some, slice_get-map, slice_get-get_or, slice_get_within}
-use Rattle.oc_base.specs.declared.format.Word.{Word}
-use Rattle.oc_base.specs.declared.format.Word.TheVariants.{W32, W64}
-use Rattle.oc_base.specs.Formats.{word_for}
-use Rattle.oc_linking.specs.declared.terms.Binding.{Binding}
-use Rattle.oc_linking.specs.declared.terms.Binding.TheVariants.{Local, Global, Undefined, Common, Weak}
-use Rattle.oc_linking.specs.declared.terms.Fallback.{Fallback}
-use Rattle.oc_linking.specs.declared.terms.Fallback.TheVariants as fallback
-use Rattle.oc_linking.specs.declared.terms.Kind.{Kind}
-use Rattle.oc_linking.specs.declared.terms.Value.{Value}
-use Rattle.oc_linking.specs.declared.terms.Value.TheVariants as value
-use Rattle.oc_linking.specs.FirstFault.{stage_fault}
-use Rattle.oc_linking.specs.Numbers.{first_from, modulus}
-use Rattle.oc_linking.proofs.Searching.{first_from_found}
-use Rattle.oc_linking.specs.Parts as parts
-use Rattle.oc_neutral.specs.declared.symbol.Symbol.{Symbol}
-use Rattle.oc_shows.specs.Computed.{computed_symbol, placed_binding, position_of as symbol_place}
-use Rattle.oc_neutral.specs.Faces.{number_of}
-use Rattle.oc_neutral.specs.Invariants.{AreBytes, HasOffset, IsAlign, IsBinding, IsOriginal, IsSymbol, IsValue, is_strong}
-use Rattle.oc_neutral.specs.Objects.{Object}
-use Rattle.oc_neutral.specs.Powers.{natural_align}
-use Rattle.oc_shows.specs.Started.{stored_section}
-use Rattle.oc_shelf.proofs.ReadingLaws.CollectedLemmas.{IsFrom}
+use Rattle.oc_coff.specs.{declared.form.Shape.{Shape}, declared.form.Shape.TheVariants.{Usual, Big}, Files.{CoffFile, tables_in}}
 use Rattle.oc_coff.specs.declared.constants.TheConstants.{IMAGE_SYM_SECTION_MAX_EX, IMAGE_SYM_CLASS_EXTERNAL, IMAGE_SYM_CLASS_LABEL, IMAGE_SYM_CLASS_STATIC, IMAGE_SYM_CLASS_WEAK_EXTERNAL}
-use Rattle.oc_coff.specs.declared.symbol.SymbolEntry.{SymbolEntry}
-use Rattle.oc_coff.specs.Tables.{SectionTable, Tables}
-use Rattle.oc_coff.specs.Names.{is_nothing}
-use Rattle.oc_coff.specs.Comdat.{section_numbered}
-use Rattle.oc_coff.specs.Entries.{Entry, entries_in, entry_numbered, has_section, is_class, name_of}
-use Rattle.oc_coff.specs.Forms.{format_by}
+use Rattle.oc_coff.specs.{declared.symbol.SymbolEntry.{SymbolEntry}, Tables.{SectionTable, Tables}, Names.{is_nothing}, Comdat.{section_numbered}}
+use Rattle.oc_coff.specs.{Entries.{Entry, entries_in, entry_numbered, has_section, is_class, name_of}, Forms.{format_by}}
 use Rattle.oc_coff.specs.Sections.{Carried, carried_of, is_stored, kind_in, position_from, position_of, section_of, sections_in}
 use Rattle.oc_coff.specs.Symbols.{binding_of, external_binding, fallback_at, fallback_by, is_own, local_binding, symbol_of, symbols_in, tag_of, value_of, weak_binding}
-use Rattle.oc_coff.specs.SymbolFaults.{can_be_tagged, is_external, symbol_stage}
-use Rattle.oc_coff.specs.Head.{IsHeaded}
+use Rattle.oc_coff.specs.{SymbolFaults.{can_be_tagged, is_external, symbol_stage}, Head.{IsHeaded}}
+use Rattle.std.proofs.Common.{◌≡◌, ◌≢◌, ℕ, ◌+◌, ◌-◌, ◌<◌, ◌≤◌, ◌^◌, Bool, true, false, cond, List, [], length, map, Option, None, Some, refl, sym, ◌∙◌, ap, subst, arith, get_or}
+use Rattle.std.specs.{Prelude.{◌&&◌, ◌||◌, nat_eq, nat_le, nat_lt, slice_get}, Option.{option_and_then, option_map, option_map_or, unwrap_or}}
+use Rattle.std.proofs.lemmas.{Bool.{ne_eqb, true≢false}, Bool.Decides.{nat_tests}}
+use Rattle.std.proofs.lemmas.Option.{none-some, same_Some, slice_get-map, slice_get-get_or, slice_get_within}
+use Rattle.oc_base.specs.{declared.format.Word.{Word}, declared.format.Word.TheVariants.{W32, W64}, Formats.{word_for}}
+use Rattle.oc_linking.specs.{declared.terms.Binding.{Binding}, declared.terms.Binding.TheVariants.{Local, Global, Undefined, Common, Weak}}
+use Rattle.oc_linking.specs.{declared.terms.Fallback.{Fallback}, declared.terms.Kind.{Kind}, declared.terms.Value.{Value}, FirstFault.{stage_fault}}
+use Rattle.oc_linking.specs.Numbers.{first_from, modulus}
+use Rattle.oc_linking.specs.declared.terms.Fallback.TheVariants as fallback
+use Rattle.oc_linking.specs.declared.terms.Value.TheVariants as value
+use Rattle.oc_linking.proofs.Searching.{first_from_found}
+use Rattle.oc_linking.specs.Parts as parts
+use Rattle.oc_neutral.specs.{declared.symbol.Symbol.{Symbol}, Faces.{number_of}}
+use Rattle.oc_neutral.specs.{Invariants.{AreBytes, HasOffset, IsAlign, IsBinding, IsOriginal, IsSymbol, IsValue, is_strong}, Objects.{Object}}
+use Rattle.oc_neutral.specs.Powers.{natural_align}
+use Rattle.oc_shows.specs.{Computed.{computed_symbol, placed_binding, position_of as symbol_place}, Started.{stored_section}}
+use Rattle.oc_shelf.proofs.ReadingLaws.CollectedLemmas.{IsFrom}
 use Rattle.oc_coff_judge.specs.Led.{carried_at, section_at}
 use Rattle.oc_coff_read.specs.Built.{keys_of, symboled}
-use Rattle.oc_coff_read.proofs.AddedSymbols.{external_entry, tagged_other}
-use Rattle.oc_coff_read.proofs.ByteLemmas.{entry_name_bytes, entry_small}
-use Rattle.oc_coff_judge.proofs.CollectLemmas.{symbols_are}
-use Rattle.oc_coff_judge.proofs.EntryLemmas.{IsPassed, find_from}
-use Rattle.oc_coff_judge.proofs.NumberedSymbols.{IsCarried, carried_symbol, symbol_stands, symbols_numbered}
-use Rattle.oc_coff_judge.proofs.PlacedLemmas.{from_at, section_from}
-use Rattle.oc_coff_judge.proofs.SoundSymbols.{IsSoundSymbol, sound_symbol}
-use Rattle.oc_coff_judge.proofs.TagLemmas.{entry_at}
+use Rattle.oc_coff_read.proofs.{AddedSymbols.{external_entry, tagged_other}, ByteLemmas.{entry_name_bytes, entry_small}}
+use Rattle.oc_coff_judge.proofs.{CollectLemmas.{symbols_are}, EntryLemmas.{IsPassed, find_from}}
+use Rattle.oc_coff_judge.proofs.{NumberedSymbols.{IsCarried, carried_symbol, symbol_stands, symbols_numbered}, PlacedLemmas.{from_at, section_from}}
+use Rattle.oc_coff_judge.proofs.{SoundSymbols.{IsSoundSymbol, sound_symbol}, TagLemmas.{entry_at}}
 
 -- ... sections by their positions
 

@@ -1,28 +1,14 @@
 -- What is known while the relocations of a file without faults are added (our profile).
-use Rattle.oc_coff.specs.Files.{CoffFile, tables_in}
+use Rattle.oc_coff.specs.{Files.{CoffFile, tables_in}, Entries.{entries_in}, RelocationFaults.{relocation_stage}, Rules.{dialect_by}}
+use Rattle.oc_coff.specs.{SectionFaults.{section_stage}, Sections.{carried_in}, SymbolFaults.{symbol_stage}}
 use Rattle.std.specs.Prelude.{◌≡◌, ℕ, true, List, length, take, slice_get, Option, Some, None}
 use Rattle.oc_base.specs.declared.format.Word.{Word}
-use Rattle.oc_linking.specs.declared.terms.Keep.{Keep}
-use Rattle.oc_linking.specs.declared.terms.Kind.{Kind}
-use Rattle.oc_linking.specs.FirstFault.{stage_fault}
+use Rattle.oc_linking.specs.{declared.terms.Keep.{Keep}, declared.terms.Kind.{Kind}, FirstFault.{stage_fault}}
 use Rattle.oc_neutral.specs.Building.{Draft}
 use Rattle.oc_shows.specs.Built.{HasAdded, IsStarted}
-use Rattle.oc_shelf.specs.declared.reading.order.PlacedEntry.{PlacedEntry}
-use Rattle.oc_shelf.specs.Reading.Collected.{collected}
-use Rattle.oc_shelf.specs.Reading.Slots.{AreSlots}
-use Rattle.oc_coff.specs.Entries.{entries_in}
-use Rattle.oc_coff.specs.RelocationFaults.{relocation_stage}
-use Rattle.oc_coff.specs.Rules.{dialect_by}
-use Rattle.oc_coff.specs.SectionFaults.{section_stage}
-use Rattle.oc_coff.specs.Sections.{carried_in}
-use Rattle.oc_coff.specs.SymbolFaults.{symbol_stage}
-use Rattle.oc_coff_judge.specs.declared.relocs.Table.{Table}
-use Rattle.oc_coff_judge.specs.Found.{ArePositions}
-use Rattle.oc_coff_judge.specs.Led.{carried_at}
-use Rattle.oc_coff_read.specs.Built.{symboled}
-use Rattle.oc_coff_read.specs.Given.{given_before, given_with}
-use Rattle.oc_coff_judge.specs.Relocs.{IsTable}
-use Rattle.oc_coff_judge.specs.Tagged.{symbol_position}
+use Rattle.oc_shelf.specs.{declared.reading.order.PlacedEntry.{PlacedEntry}, Reading.Collected.{collected}, Reading.Slots.{AreSlots}}
+use Rattle.oc_coff_judge.specs.{declared.relocs.Table.{Table}, Found.{ArePositions}, Led.{carried_at}, Relocs.{IsTable}, Tagged.{symbol_position}}
+use Rattle.oc_coff_read.specs.{Built.{symboled}, Given.{given_before, given_with}}
 
 -- what is built before the relocations
 abbrev pub started : Word → CoffFile → Draft

@@ -1,24 +1,14 @@
 -- What is built of a file, step by step (PE/COFF; our profile).
-use Rattle.oc_coff.specs.Files.{CoffFile, tables_in}
+use Rattle.oc_coff.specs.{Files.{CoffFile, tables_in}, declared.section_header.SectionHeader.{SectionHeader}, Tables.{Tables, section_table}, Entries.{name_of}}
+use Rattle.oc_coff.specs.{Comdat.{led_key}, Sections.{is_stored, sections_in}, Symbols.{symbols_in}, Forms.{format_by}}
 use Rattle.std.specs.Prelude.{◌≡◌, ℕ, ◌+◌, false, List, [], ◌∷◌, ◌++◌, length, map, replicate, if◌then◌else◌, slice_index_or, Option, Some, None}
-use Rattle.oc_base.specs.declared.format.Word.{Word}
-use Rattle.oc_base.specs.Strings.{is_given}
+use Rattle.oc_base.specs.{declared.format.Word.{Word}, Strings.{is_given}}
 use Rattle.oc_linking.specs.Parts as parts
 use Rattle.oc_linking.specs.declared.terms.Kind.{Kind}
 use Rattle.oc_neutral.specs.Building.{Draft, is_zero}
-use Rattle.oc_shows.specs.Computed.{computed_symbol, keys_after}
-use Rattle.oc_shows.specs.Started.{groups_by, plain_draft, stored_section}
-use Rattle.oc_shelf.specs.Reading.Collected.{collected}
-use Rattle.oc_coff.specs.declared.section_header.SectionHeader.{SectionHeader}
-use Rattle.oc_coff.specs.Tables.{Tables, section_table}
-use Rattle.oc_coff.specs.Entries.{name_of}
-use Rattle.oc_coff.specs.Comdat.{led_key}
-use Rattle.oc_coff.specs.Sections.{is_stored, sections_in}
-use Rattle.oc_coff.specs.Symbols.{symbols_in}
-use Rattle.oc_coff.specs.Forms.{format_by}
-use Rattle.oc_coff_judge.specs.Led.{IsLed, leader_of, section_at, symbol_at}
-use Rattle.oc_coff_judge.specs.Numbered.{entry_by}
-use Rattle.oc_shelf.specs.Reading.Slots.{place_in}
+use Rattle.oc_shows.specs.{Computed.{computed_symbol, keys_after}, Started.{groups_by, plain_draft, stored_section}}
+use Rattle.oc_shelf.specs.{Reading.Collected.{collected}, Reading.Slots.{place_in}}
+use Rattle.oc_coff_judge.specs.{Led.{IsLed, leader_of, section_at, symbol_at}, Numbered.{entry_by}}
 
 -- ... groups
 

@@ -1,44 +1,22 @@
 -- The relocation that is given to the Builder for each entry, and those that are given for a file (our profile).
-use Rattle.oc_coff.specs.Files.{CoffFile, tables_in}
+use Rattle.oc_coff.specs.{Files.{CoffFile, tables_in}, declared.relocation.Relocation.{Relocation}, Tables.{Tables}}
+use Rattle.oc_coff.specs.{Entries.{Entry, entries_in, entry_numbered}, Sections.{Carried, carried_in, sections_in}}
+use Rattle.oc_coff.specs.{Symbols.{is_own, symbol_of, symbols_in, value_of}, Forms.{coff_format}, Fields.{relocates, says_nothing}, Targets.{Aim, aim_in}}
+use Rattle.oc_coff.specs.declared.meaning.Meaning.{Meaning}
 use Rattle.std.specs.Prelude.{◌≡◌, ℕ, ◌&&◌, ◌||◌, nat_eq, nat_lt, if◌then◌else◌, ℤ, pos, neg_ℤ, List, find, slice_get, slice_index_or, Option, Some, None}
 use Rattle.std.specs.Option.{option_map, option_and_then}
-use Rattle.oc_base.specs.declared.format.Word.{Word}
-use Rattle.oc_base.specs.Numbers.{number_at}
-use Rattle.oc_linking.specs.declared.terms.Hint.TheVariants.{Plain}
-use Rattle.oc_linking.specs.declared.terms.Keep.{Keep}
-use Rattle.oc_linking.specs.declared.terms.Value.{Value}
+use Rattle.oc_base.specs.{declared.format.Word.{Word}, Numbers.{number_at}}
+use Rattle.oc_linking.specs.{declared.terms.Hint.TheVariants.{Plain}, declared.terms.Keep.{Keep}, declared.terms.Value.{Value}, Fits.{bytes_of}}
+use Rattle.oc_linking.specs.{Keeping.{keeps}, Targets.{Target, symbol_target}}
 use Rattle.oc_linking.specs.declared.terms.Value.TheVariants as value
-use Rattle.oc_linking.specs.Fits.{bytes_of}
-use Rattle.oc_linking.specs.Keeping.{keeps}
 use Rattle.oc_linking.specs.Parts as parts
-use Rattle.oc_linking.specs.Targets.{Target, symbol_target}
-use Rattle.oc_algebra.specs.Fields.{from_field_of}
-use Rattle.oc_algebra.specs.Residues.{reduced_number}
-use Rattle.oc_shows.specs.Built.{RelocMap}
-use Rattle.oc_shows.specs.Computed.{position_of}
-use Rattle.oc_neutral.specs.declared.reloc.Reloc.{Reloc}
-use Rattle.oc_neutral.specs.declared.reloc.Target.{Target as RelocTarget}
-use Rattle.oc_neutral.specs.declared.reloc.Target.TheVariants as target
-use Rattle.oc_neutral.specs.Normal.{moved_addend}
-use Rattle.oc_neutral.specs.RelocTables.{row_of}
-use Rattle.oc_shows.specs.RowFields.{number_in}
-use Rattle.oc_shows.specs.RowValues.{row_reloc}
+use Rattle.oc_algebra.specs.{Fields.{from_field_of}, Residues.{reduced_number}}
+use Rattle.oc_shows.specs.{Built.{RelocMap}, Computed.{position_of}, RowFields.{number_in}, RowValues.{row_reloc}}
+use Rattle.oc_neutral.specs.{declared.reloc.Reloc.{Reloc}, declared.reloc.Target.{Target as RelocTarget}, Normal.{moved_addend}, RelocTables.{row_of}}
 use Rattle.oc_neutral.specs.Rows.{Row}
-use Rattle.oc_shelf.specs.declared.reading.order.PlacedEntry.{PlacedEntry}
-use Rattle.oc_coff.specs.declared.relocation.Relocation.{Relocation}
-use Rattle.oc_coff.specs.Tables.{Tables}
-use Rattle.oc_coff.specs.Entries.{Entry, entries_in, entry_numbered}
-use Rattle.oc_coff.specs.Sections.{Carried, carried_in, sections_in}
-use Rattle.oc_coff.specs.Symbols.{is_own, symbol_of, symbols_in, value_of}
-use Rattle.oc_coff.specs.Forms.{coff_format}
-use Rattle.oc_coff.specs.Fields.{relocates, says_nothing}
-use Rattle.oc_coff.specs.Targets.{Aim, aim_in}
-use Rattle.oc_coff.specs.declared.meaning.Meaning.{Meaning}
-use Rattle.oc_coff_judge.specs.declared.relocs.Table.{Table}
-use Rattle.oc_coff_judge.specs.Numbered.{entry_by}
-use Rattle.oc_coff_judge.specs.Relocs.{reloc_of}
-use Rattle.oc_coff_judge.specs.Tagged.{symbol_position}
-use Rattle.oc_shelf.specs.Reading.Order.{is_among}
+use Rattle.oc_neutral.specs.declared.reloc.Target.TheVariants as target
+use Rattle.oc_shelf.specs.{declared.reading.order.PlacedEntry.{PlacedEntry}, Reading.Order.{is_among}}
+use Rattle.oc_coff_judge.specs.{declared.relocs.Table.{Table}, Numbered.{entry_by}, Relocs.{reloc_of}, Tagged.{symbol_position}}
 
 -- the relocation of a row against a value: a place is a section's, with the offset added; a is the number in the field, and s the position of its section
 abbrev pub reloc_at : Word → Row → ℕ → ℤ → Value → Option Reloc

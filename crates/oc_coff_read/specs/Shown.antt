@@ -1,17 +1,12 @@
 -- What a file shows that has no fault (our profile).
-use Rattle.oc_coff.specs.Files.{CoffFile, tables_in}
+use Rattle.oc_coff.specs.{Files.{CoffFile, tables_in}, declared.form.Shape.TheVariants.{Usual, Big}, Entries.{entries_in}}
+use Rattle.oc_coff.specs.Rules.{CoffIsDialect, dialect_by, fault_by}
 use Rattle.std.specs.Prelude.{◌≡◌, ◌≤◌, length, None, refl}
-use Rattle.oc_base.specs.declared.format.Word.{Word}
-use Rattle.oc_base.specs.declared.format.Word.TheVariants.{W32, W64}
-use Rattle.oc_coff.specs.declared.form.Shape.TheVariants.{Usual, Big}
+use Rattle.oc_base.specs.{declared.format.Word.{Word}, declared.format.Word.TheVariants.{W32, W64}}
 use Rattle.oc_linking.specs.declared.terms.Keep.{Keep}
 use Rattle.oc_neutral.specs.Building.{Draft}
-use Rattle.oc_shows.specs.Built.{HasAdded, IsStarted}
-use Rattle.oc_shows.specs.Shows.{Shows}
-use Rattle.oc_coff.specs.Entries.{entries_in}
-use Rattle.oc_coff.specs.Rules.{CoffIsDialect, dialect_by, fault_by}
-use Rattle.oc_coff_read.specs.Built.{symboled}
-use Rattle.oc_coff_read.specs.Given.{given_at}
+use Rattle.oc_shows.specs.{Built.{HasAdded, IsStarted}, Shows.{Shows}}
+use Rattle.oc_coff_read.specs.{Built.{symboled}, Given.{given_at}}
 
 -- a file without a fault shows what is built of its sections and symbols, with the relocations of its entries
 abbrev pub CleanIsShown : Type 0

@@ -1,15 +1,9 @@
 -- The first key symbols: what one more symbol adds, and what they say of groups.
 use Rattle.std.proofs.Common.{◌≡◌, ℕ, zero, suc, ◌+◌, ◌≤◌, ◌&&◌, ◌||◌, Bool, true, false, cond, List, [], ◌∷◌, length, map, Option, Some, None, refl, sym, ◌∙◌, ap, arith}
-use Rattle.std.specs.Prelude.{slice_get, nat_eq, filter, find, take}
-use Rattle.std.specs.List.{list_any, enumerate_from}
+use Rattle.std.specs.{Prelude.{slice_get, nat_eq, filter, find, take}, List.{list_any, enumerate_from}}
 use Rattle.std.specs.Option.{option_and_then, option_map, option_map_or, option_or, is_some}
-use Rattle.std.proofs.lemmas.Bool.{true≢false, and_parts, eqb-true, eq-eqb}
-use Rattle.std.proofs.lemmas.List.{length-map}
-use Rattle.std.proofs.lemmas.Option.{none-some, same_Some}
-use Rattle.oc_neutral.specs.declared.symbol.Symbol.{Symbol}
-use Rattle.oc_neutral.specs.Normal.{Place}
-use Rattle.oc_neutral.specs.Objects.{Object}
-use Rattle.oc_neutral.specs.Invariants.{AreDistinct}
+use Rattle.std.proofs.lemmas.{Bool.{true≢false, and_parts, eqb-true, eq-eqb}, List.{length-map}, Option.{none-some, same_Some}}
+use Rattle.oc_neutral.specs.{declared.symbol.Symbol.{Symbol}, Normal.{Place}, Objects.{Object}, Invariants.{AreDistinct}}
 use Rattle.oc_neutral.specs.KeySymbols.{global_place, group_at, is_key_name, is_key_at, lies_in}
 use Rattle.oc_target.proofs.KeyPlaces.{is_key_in, key_at_place, key_names, keys_at}
 use Rattle.oc_target.specs.Keyed.{key_place}

@@ -1,14 +1,11 @@
 -- The rows of the tables of a file.
 use Rattle.std.proofs.Common.{◌≡◌, ℕ, ◌+◌, ◌^◌, ◌<◌, ◌≤◌, Bool, true, false, cond, List, [], ◌∷◌, length, map, Some, arith}
 use Rattle.std.specs.Prelude.{slice_get}
-use Rattle.std.proofs.lemmas.List.{length-map}
-use Rattle.std.proofs.lemmas.Option.{get_or_from_slice_get}
+use Rattle.std.proofs.lemmas.{List.{length-map}, Option.{get_or_from_slice_get}}
 use Rattle.oc_shows.proofs.Reordered.{member_map}
 use Rattle.oc_shelf.specs.Writing.Parts.{table_of, row_of}
 use Rattle.oc_shelf.proofs.WritingLaws.TableLemmas.{table_long}
-use Rattle.oc_coff.specs.declared.relocation.Relocation.{Relocation}
-use Rattle.oc_coff.specs.Relocation.{relocation_bytes}
-use Rattle.oc_coff.specs.Flags.{is_crowded, count_entry, with_count}
+use Rattle.oc_coff.specs.{declared.relocation.Relocation.{Relocation}, Relocation.{relocation_bytes}, Flags.{is_crowded, count_entry, with_count}}
 use Rattle.oc_coff_write.specs.Plans.{relocation_rows}
 use Rattle.oc_coff_write.proofs.PlanLemmas.{relocations_sized}
 

@@ -1,10 +1,7 @@
 -- Where the key symbols of groups are, by positions (PE/COFF, "COMDAT Sections"; our profile).
 use Rattle.std.specs.Prelude.{◌≡◌, ℕ, ◌+◌, ◌<◌, ◌&&◌, if◌then◌else◌, List, [], ◌∷◌, length, slice_index_or, Option, Some, None}
 use Rattle.std.specs.Option.{option_map, option_or}
-use Rattle.oc_neutral.specs.declared.symbol.Symbol.{Symbol}
-use Rattle.oc_neutral.specs.Normal.{Place}
-use Rattle.oc_neutral.specs.Objects.{Object}
-use Rattle.oc_neutral.specs.KeySymbols.{global_place, is_key_name, is_key_at, lies_in}
+use Rattle.oc_neutral.specs.{declared.symbol.Symbol.{Symbol}, Normal.{Place}, Objects.{Object}, KeySymbols.{global_place, is_key_name, is_key_at, lies_in}}
 use Rattle.oc_plans.specs.Slots.{is_given}
 
 -- what is made of the first item from position k on of which something is made

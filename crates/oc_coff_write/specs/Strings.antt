@@ -1,14 +1,10 @@
 -- The string table of a COFF output (PE/COFF, "COFF String Table"; our profile).
-use Rattle.std.specs.Prelude.{◌≡◌, ℕ, true, List}
-use Rattle.std.specs.Option.{unwrap_or}
-use Rattle.oc_coff.specs.declared.form.CoffForm.{CoffForm}
+use Rattle.std.specs.{Prelude.{◌≡◌, ℕ, true, List}, Option.{unwrap_or}}
+use Rattle.oc_coff.specs.{declared.form.CoffForm.{CoffForm}, Forms.{format_of}}
 use Rattle.oc_base.specs.Strings.{is_given, table_place}
-use Rattle.oc_neutral.specs.Coff.Strings.{is_long, is_tabled}
-use Rattle.oc_neutral.specs.Objects.{Object}
+use Rattle.oc_neutral.specs.{Coff.Strings.{is_long, is_tabled}, Objects.{Object}, declared.coff.TheConstants.{STRINGS_HEAD}}
 use Rattle.oc_target.specs.CoffMeets.{strings_of}
 use Rattle.oc_strings.specs.Tables.{StringTable}
-use Rattle.oc_neutral.specs.declared.coff.TheConstants.{STRINGS_HEAD}
-use Rattle.oc_coff.specs.Forms.{format_of}
 
 -- the table of an object's names, whose first text comes after its size
 abbrev pub table_for : CoffForm → Object → StringTable

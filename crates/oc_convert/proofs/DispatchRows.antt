@@ -1,16 +1,11 @@
 -- Which refusal comes first, on the first bytes of files from outside, where all files end too early.
 use Rattle.std.proofs.Common.{◌≡◌, ℕ, List, [], ◌∷◌, map, Option, Some, None, refl}
-use Rattle.oc_base.specs.declared.code.Code.TheVariants.{UnknownFormat, WordSize, Short}
-use Rattle.oc_base.specs.declared.fault.Fault.{Fault}
-use Rattle.oc_base.specs.declared.format.Format.{Format}
-use Rattle.oc_base.specs.declared.format.Format.TheVariants.{Elf32, Elf64, Coff32, Coff64, Mac64}
-use Rattle.oc_base.specs.Formats.{word_for}
+use Rattle.oc_base.specs.{declared.code.Code.TheVariants.{UnknownFormat, WordSize, Short}, declared.fault.Fault.{Fault}, declared.format.Format.{Format}}
+use Rattle.oc_base.specs.{declared.format.Format.TheVariants.{Elf32, Elf64, Coff32, Coff64, Mac64}, Formats.{word_for}}
 use Rattle.oc_linking.specs.Keeping.{all}
-use Rattle.oc_neutral.specs.Alignments.{output_align, common_align}
-use Rattle.oc_neutral.specs.Dialects.{Dialect}
+use Rattle.oc_neutral.specs.{Alignments.{output_align, common_align}, Dialects.{Dialect}}
 use Rattle.oc_names.specs.Wishes.{no_wishes}
-use Rattle.oc_convert.specs.Identified.{identified}
-use Rattle.oc_convert.specs.Dispatched.{Built, header_refusal, dispatch_refusal, reading_refusal}
+use Rattle.oc_convert.specs.{Identified.{identified}, Dispatched.{Built, header_refusal, dispatch_refusal, reading_refusal}}
 
 -- a format whose files all end too early
 abbrev short : Format → Dialect

@@ -1,24 +1,15 @@
 -- Where an object shows a file, it is the file's, and its refusal is the first.
 use Rattle.std.proofs.Common.{◌≡◌, ℕ, List, None, Result, Ok, sym, ◌∙◌, ap, subst}
-use Rattle.oc_base.specs.declared.format.Format.{Format}
-use Rattle.oc_base.specs.declared.fault.Fault.{Fault}
-use Rattle.oc_base.specs.declared.stop.Stop.{Stop}
+use Rattle.oc_base.specs.{declared.format.Format.{Format}, declared.fault.Fault.{Fault}, declared.stop.Stop.{Stop}, Stops.{IsStop}}
 use Rattle.oc_base.specs.declared.stop.Stop.TheVariants as stop
-use Rattle.oc_base.specs.Stops.{IsStop}
-use Rattle.oc_linking.specs.declared.terms.Keep.{Keep}
-use Rattle.oc_linking.specs.Numbers.{or_else}
-use Rattle.oc_neutral.specs.Objects.{Object}
-use Rattle.oc_neutral.specs.Invariants.{IsObject}
-use Rattle.oc_neutral.specs.Dialects.{Dialect}
-use Rattle.oc_shows.specs.Shows.{Shows}
-use Rattle.oc_shows.specs.Computed.{object_in}
+use Rattle.oc_linking.specs.{declared.terms.Keep.{Keep}, Numbers.{or_else}}
+use Rattle.oc_neutral.specs.{Objects.{Object}, Invariants.{IsObject}, Dialects.{Dialect}}
+use Rattle.oc_shows.specs.{Shows.{Shows}, Computed.{object_in}}
 use Rattle.oc_target.specs.Fitted.{first_unfit}
 use Rattle.oc_shows.proofs.ShownComputed.{shown_is_computed}
 use Rattle.oc_drop.specs.Refusals.{IsStepRefusal}
-use Rattle.oc_names.specs.Wishes.{Wishes}
-use Rattle.oc_names.specs.Edited.{edited}
-use Rattle.oc_convert.specs.Converted.{HasObject}
-use Rattle.oc_convert.specs.Refusals.{kept_of_file, edited_refusal, object_refusal, first_refusal}
+use Rattle.oc_names.specs.{Wishes.{Wishes}, Edited.{edited}}
+use Rattle.oc_convert.specs.{Converted.{HasObject}, Refusals.{kept_of_file, edited_refusal, object_refusal, first_refusal}}
 
 -- a fault of editing
 pub edit_stands : (to : Format) (step : Result Object Fault) (e : Stop) → IsStepRefusal step e → IsStop (edited_refusal to step) e

@@ -1,31 +1,18 @@
 -- An object that is ready for a target, step by step; and what its file is to the input.
 use Rattle.std.proofs.Common.{◌≡◌, ◌^◌, ◌≤◌, ℕ, List, length, None, Result, Ok, Err, sym, ◌∙◌, ap}
 use Rattle.std.specs.Prelude.{IfOk, OnOk}
-use Rattle.oc_base.specs.declared.format.Format.{Format}
-use Rattle.oc_base.specs.Formats.{word_for}
-use Rattle.oc_base.specs.declared.stop.Stop.{Stop}
+use Rattle.oc_base.specs.{declared.format.Format.{Format}, Formats.{word_for}, declared.stop.Stop.{Stop}}
 use Rattle.oc_linking.specs.declared.terms.Keep.{Keep}
 use Rattle.oc_linking.specs.Parts as parts
-use Rattle.oc_neutral.specs.Objects.{Object}
-use Rattle.oc_neutral.specs.Invariants.{IsObject}
-use Rattle.oc_neutral.specs.Dialects.{Dialect}
-use Rattle.oc_shows.specs.Readable.{IsReadable}
-use Rattle.oc_shows.specs.Shows.{Shows}
-use Rattle.oc_target.specs.Fitted.{CanFit, IsFit, IsFitted, first_unfit}
-use Rattle.oc_target.specs.Fitting.{fit_of}
-use Rattle.oc_target.specs.Targets.{WritesCanonical}
+use Rattle.oc_neutral.specs.{Objects.{Object}, Invariants.{IsObject}, Dialects.{Dialect}}
+use Rattle.oc_shows.specs.{Readable.{IsReadable}, Shows.{Shows}}
+use Rattle.oc_target.specs.{Fitted.{CanFit, IsFit, IsFitted, first_unfit}, Fitting.{fit_of}, Targets.{WritesCanonical}}
 use Rattle.oc_target.proofs.SeenLaws.{seen_looks_alike_law}
 use Rattle.oc_shows.proofs.ShownComputed.{shown_is_computed}
-use Rattle.oc_names.specs.Wishes.{Wishes}
-use Rattle.oc_names.specs.Edited.{edited}
-use Rattle.oc_names.specs.EditedShows.{is_folded_after, HasEdited}
-use Rattle.oc_names.proofs.EditedParts.{edited_parts}
-use Rattle.oc_names.proofs.EditedShown.{edited_shows_law}
-use Rattle.oc_convert.specs.Converted.{IsFaithful, IsReady, edited_file, on_ok}
-use Rattle.oc_convert.specs.Refusals.{kept_of_file}
-use Rattle.oc_convert.proofs.Firsts.{has_object, refused_by_edited}
-use Rattle.oc_convert.proofs.Notes.{notes_kept}
-use Rattle.oc_convert.proofs.Whole.{faithful}
+use Rattle.oc_names.specs.{Wishes.{Wishes}, Edited.{edited}, EditedShows.{is_folded_after, HasEdited}}
+use Rattle.oc_names.proofs.{EditedParts.{edited_parts}, EditedShown.{edited_shows_law}}
+use Rattle.oc_convert.specs.{Converted.{IsFaithful, IsReady, edited_file, on_ok}, Refusals.{kept_of_file}}
+use Rattle.oc_convert.proofs.{Firsts.{has_object, refused_by_edited}, Notes.{notes_kept}, Whole.{faithful}}
 
 module _ (wishes : Wishes) (f : Dialect) (to : Format) (b : List ℕ) (n : Object) (is : IsObject n) (shows : Shows f b (kept_of_file wishes f to) n) (m : Object) (made : edited wishes to n ≡ Ok m) where
   abbrev keep : Keep

@@ -1,16 +1,11 @@
 -- The first refusal of a conversion (our profile).
 use Rattle.std.specs.Prelude.{List, ℕ, Option, Some, Result, Ok, Err}
-use Rattle.oc_base.specs.declared.format.Format.{Format}
-use Rattle.oc_base.specs.declared.fault.Fault.{Fault}
-use Rattle.oc_linking.specs.declared.terms.Keep.{Keep}
-use Rattle.oc_linking.specs.Numbers.{or_else}
-use Rattle.oc_neutral.specs.Objects.{Object}
-use Rattle.oc_neutral.specs.Dialects.{Dialect}
+use Rattle.oc_base.specs.{declared.format.Format.{Format}, declared.fault.Fault.{Fault}}
+use Rattle.oc_linking.specs.{declared.terms.Keep.{Keep}, Numbers.{or_else}}
+use Rattle.oc_neutral.specs.{Objects.{Object}, Dialects.{Dialect}}
 use Rattle.oc_shows.specs.Computed.{object_in}
 use Rattle.oc_target.specs.Fitted.{first_unfit}
-use Rattle.oc_names.specs.Wishes.{Wishes}
-use Rattle.oc_names.specs.Kept.{keep_for}
-use Rattle.oc_names.specs.Edited.{edited}
+use Rattle.oc_names.specs.{Wishes.{Wishes}, Kept.{keep_for}, Edited.{edited}}
 
 -- what is kept of a file of the dialect on its way to a target
 abbrev pub kept_of_file : Wishes → Dialect → Format → Keep

@@ -1,43 +1,30 @@
 -- Each output is a file of its format, and a conversion to that format gives it again.
 use Rattle.std.proofs.Common.{◌≡◌, ℕ, true, cond, List, ◌∷◌, Option, Some, None, Ok, refl, sym, ◌∙◌, ap, subst}
-use Rattle.oc_base.specs.declared.format.Word.{Word}
-use Rattle.oc_base.specs.declared.format.Word.TheVariants.{W32, W64}
-use Rattle.oc_base.specs.declared.format.Format.{Format}
+use Rattle.oc_base.specs.{declared.format.Word.{Word}, declared.format.Word.TheVariants.{W32, W64}, declared.format.Format.{Format}}
 use Rattle.oc_base.specs.declared.format.Format.TheVariants.{Elf32, Elf64, Coff32, Coff64, Mac32, Mac64, Omf, BigElf32, BigElf64, BigCoff32, BigCoff64}
-use Rattle.oc_base.specs.declared.code.Code.TheVariants.{WordSize}
-use Rattle.oc_base.specs.declared.fault.Fault.{Fault}
-use Rattle.oc_base.specs.Formats.{word_for}
+use Rattle.oc_base.specs.{declared.code.Code.TheVariants.{WordSize}, declared.fault.Fault.{Fault}, Formats.{word_for}}
 use Rattle.oc_linking.specs.Numbers.{or_else}
-use Rattle.oc_neutral.specs.Families.{same_word}
-use Rattle.oc_neutral.specs.Dialects.{Dialect}
+use Rattle.oc_neutral.specs.{Families.{same_word}, Dialects.{Dialect}, Objects.{Object}}
 use Rattle.oc_target.specs.Fitted.{IsFitted}
-use Rattle.oc_neutral.specs.Objects.{Object}
 use Rattle.oc_names.specs.Wishes.{no_wishes}
-use Rattle.oc_convert.specs.Converted.{planned_file}
-use Rattle.oc_convert.specs.Dispatched.{IsClosed, dispatch_refusal, refusal_from, header_refusal}
-use Rattle.oc_convert.specs.Identified.{identified}
+use Rattle.oc_convert.specs.{Converted.{planned_file}, Dispatched.{IsClosed, dispatch_refusal, refusal_from, header_refusal}, Identified.{identified}}
 use Rattle.oc_convert.specs.Refusals.{first_refusal}
 use Rattle.oc_dispatch.specs.Built.{built, reader_of, writer_of}
-use Rattle.oc_elf.specs.declared.class.ElfClass.{ElfClass}
-use Rattle.oc_elf.specs.declared.class.ElfClass.TheVariants.{Class32, Class64, Big32, Big64}
-use Rattle.oc_elf.specs.Classes.{format_of}
+use Rattle.oc_elf.specs.{declared.class.ElfClass.{ElfClass}, declared.class.ElfClass.TheVariants.{Class32, Class64, Big32, Big64}, Classes.{format_of}}
+use Rattle.oc_elf.specs.Elf.{elf_dialect}
 use Rattle.oc_elf_file.specs.Canonical.{elf_file}
 use Rattle.oc_elf_file.proofs.CodedLaws.{for_elf}
-use Rattle.oc_coff.specs.declared.form.CoffForm.{CoffForm}
+use Rattle.oc_coff.specs.{declared.form.CoffForm.{CoffForm}, Rules.{coff_dialect}}
 use Rattle.oc_coff.specs.declared.form.CoffForm.TheVariants as form
 use Rattle.oc_coff.specs.Forms as coff_forms
 use Rattle.oc_coff_file.specs.Canonical.{coff_file}
-use Rattle.oc_macho.specs.MachHeader.{mach_format}
+use Rattle.oc_macho.specs.{MachHeader.{mach_format}, Rules.{mach_dialect}}
 use Rattle.oc_macho_file.specs.Canonical.{mach_file}
 use Rattle.oc_omf_file.specs.Canonical.{omf_file}
 use Rattle.oc_canonical.specs.Stable.{IsStable}
-use Rattle.oc_canonical.proofs.Stable.{canonical_is_stable, elf_reads_back, coff_reads_back, mach_reads_back}
-use Rattle.oc_canonical.proofs.OmfStable.{omf_reads_back}
-use Rattle.oc_elf.specs.Elf.{elf_dialect}
-use Rattle.oc_coff.specs.Rules.{coff_dialect}
-use Rattle.oc_macho.specs.Rules.{mach_dialect}
-use Rattle.oc_omf.specs.Rules.{omf_dialect}
+use Rattle.oc_canonical.proofs.{Stable.{canonical_is_stable, elf_reads_back, coff_reads_back, mach_reads_back}, OmfStable.{omf_reads_back}}
 use Rattle.oc_canonical.proofs.Known.{elf_known, coff_known, mach_known, omf_known}
+use Rattle.oc_omf.specs.Rules.{omf_dialect}
 
 elf_stable : (class : ElfClass) (n : Object) → IsFitted (format_of class) n → IsStable (elf_dialect class) (elf_file class) (elf_file class n)
 elf_stable class n fits = canonical_is_stable (elf_dialect class) (elf_file class) (elf_reads_back class) n fits

@@ -3,15 +3,11 @@ use Rattle.std.proofs.Common.{◌≡◌, Bool, true, false, not, ◌&&◌, cond,
 use Rattle.std.proofs.lemmas.Option.{none-some}
 use Rattle.oc_base.specs.declared.fault.Fault.{Fault}
 use Rattle.oc_linking.specs.Parts.{is_local}
-use Rattle.oc_chains.specs.declared.field.Field.{Field}
-use Rattle.oc_chains.specs.Lists.{list_of}
-use Rattle.oc_neutral.specs.declared.reloc.Reloc.{Reloc}
-use Rattle.oc_neutral.specs.declared.symbol.Symbol.{Symbol}
-use Rattle.oc_neutral.specs.Objects.{Object}
+use Rattle.oc_chains.specs.{declared.field.Field.{Field}, Lists.{list_of}}
+use Rattle.oc_neutral.specs.{declared.reloc.Reloc.{Reloc}, declared.symbol.Symbol.{Symbol}, Objects.{Object}}
 use Rattle.oc_neutral.specs.Without.{IsDetached, is_dropped, lies_in_dropped, refers_to_dropped}
 use Rattle.oc_neutral.proofs.Positions.{each_weaker}
-use Rattle.oc_drop.specs.Steps.{first_field, first_in}
-use Rattle.oc_drop.specs.Dropping.{dropped_reference, dropped_symbol, dropping_fault}
+use Rattle.oc_drop.specs.{Steps.{first_field, first_in}, Dropping.{dropped_reference, dropped_symbol, dropping_fault}}
 use Rattle.oc_drop.proofs.FirstLaws.{neither_first, neither_second, none_in, none_of_section}
 
 not_met : (b : Bool) (fault : Fault) → cond b (Some fault) None ≡ None → b ≡ false

@@ -1,21 +1,13 @@
 -- The sections that are left look as they did, each in its group.
 use Rattle.std.proofs.Common.{◌≡◌, ℕ, zero, suc, ◌+◌, ◌<◌, Bool, true, false, cond, eqb, List, [], ◌∷◌, ◌++◌, length, map, Option, Some, None, refl, sym, ◌∙◌, ap, subst, arith}
-use Rattle.std.specs.Prelude.{slice_get, nat_eq}
-use Rattle.std.specs.List.{AllByRecursion, filter_map, cons_option, position_from}
-use Rattle.std.specs.Option.{option_map, option_and_then, is_some}
-use Rattle.std.proofs.lemmas.Bool.{eq-eqb}
-use Rattle.std.proofs.lemmas.Option.{none-some, same_Some, slice_get_within}
-use Rattle.oc_linking.specs.declared.terms.Keep.{Keep}
-use Rattle.oc_linking.specs.Keeping.{keeps, kept_flags, kept_of}
+use Rattle.std.specs.{Prelude.{slice_get, nat_eq}, List.{AllByRecursion, filter_map, cons_option, position_from}, Option.{option_map, option_and_then, is_some}}
+use Rattle.std.proofs.lemmas.{Bool.{eq-eqb}, Option.{none-some, same_Some, slice_get_within}}
+use Rattle.oc_linking.specs.{declared.terms.Keep.{Keep}, Keeping.{keeps, kept_flags, kept_of}}
 use Rattle.oc_linking.specs.Parts as parts
-use Rattle.oc_neutral.specs.declared.group.Group.{Group}
-use Rattle.oc_neutral.specs.declared.section.Section.{Section}
-use Rattle.oc_neutral.specs.Faces.{key_of, shown_section, frame_of}
-use Rattle.oc_neutral.specs.Invariants.{IsMember, groups_of}
-use Rattle.oc_neutral.proofs.Positions.{there_at}
+use Rattle.oc_neutral.specs.{declared.group.Group.{Group}, declared.section.Section.{Section}, Faces.{key_of, shown_section, frame_of}}
+use Rattle.oc_neutral.specs.{Invariants.{IsMember, groups_of}, Without.{place_in, begun_more, begun_by, groups_left, regrouped}}
+use Rattle.oc_neutral.proofs.{Positions.{there_at}, Regrouping.{left_low, picked, picked_from, picked_long, place_says}}
 use Rattle.oc_drop.specs.Dropping.{sections_stay}
-use Rattle.oc_neutral.specs.Without.{place_in, begun_more, begun_by, groups_left, regrouped}
-use Rattle.oc_neutral.proofs.Regrouping.{left_low, picked, picked_from, picked_long, place_says}
 
 -- what two functions make of a list, where they agree on each item
 pub map_same : {X Y : Type 0} (f g : X → Y) (xs : List X) → ((k : ℕ) (x : X) → slice_get xs k ≡ Some x → f x ≡ g x) → map f xs ≡ map g xs

@@ -1,57 +1,32 @@
 -- What is left of an object shows the kept fields of the file that the object showed.
 use Rattle.std.proofs.Common.{◌≡◌, ℕ, zero, suc, ◌+◌, ◌<◌, Bool, true, false, not, ◌&&◌, ◌||◌, cond, eqb, List, [], ◌∷◌, length, map, get_or, Option, Some, None, inl, inr, refl, sym, ◌∙◌, ap, subst, arith}
 use mathlib.Core.Path.{fun_ext}
-use Rattle.std.specs.Prelude.{slice_get}
-use Rattle.std.specs.Option.{option_map, option_map_or, unwrap_or}
-use Rattle.std.proofs.lemmas.Bool.{cases_lt, true≢false, or_parts, not-false}
-use Rattle.std.proofs.lemmas.List.{length-map, get_or_past}
-use Rattle.std.proofs.lemmas.Option.{none-some}
-use Rattle.oc_base.specs.declared.format.Word.{Word}
-use Rattle.oc_base.specs.Formats.{word_for}
-use Rattle.oc_linking.specs.declared.terms.Keep.{Keep}
-use Rattle.oc_linking.specs.declared.terms.Patch.{Patch}
+use Rattle.std.specs.{Prelude.{slice_get}, Option.{option_map, option_map_or, unwrap_or}}
+use Rattle.std.proofs.lemmas.{Bool.{cases_lt, true≢false, or_parts, not-false}, List.{length-map, get_or_past}, Option.{none-some}}
+use Rattle.oc_base.specs.{declared.format.Word.{Word}, Formats.{word_for}}
+use Rattle.oc_linking.specs.{declared.terms.Keep.{Keep}, declared.terms.Patch.{Patch}, declared.terms.Binding.{Binding}}
+use Rattle.oc_linking.specs.{declared.terms.Binding.TheVariants.{Local, Global, Undefined, Common, Weak}, declared.terms.Less.{Less}}
+use Rattle.oc_linking.specs.{Keeping.{carried_of, kept_of, kept_flags}, Numbers.{minus}, Parts.{is_local}}
+use Rattle.oc_linking.specs.{Placing.{Site, Placement, nowhere, spread, spread_over}, Values.{Valued, Valuation, worthless}}
+use Rattle.oc_linking.specs.{Images.{Patches, overlay, overlays}, Linking.{patch_of, flags_in, spread_in}, Shows.{Apart, live_of, under_of, unders}}
 use Rattle.oc_linking.specs.declared.terms.Value.TheVariants as value
-use Rattle.oc_linking.specs.declared.terms.Binding.{Binding}
-use Rattle.oc_linking.specs.declared.terms.Binding.TheVariants.{Local, Global, Undefined, Common, Weak}
-use Rattle.oc_linking.specs.declared.terms.Less.{Less}
 use Rattle.oc_linking.specs.declared.terms.Less.TheVariants as less
-use Rattle.oc_linking.specs.Keeping.{carried_of, kept_of, kept_flags}
-use Rattle.oc_linking.specs.Numbers.{minus}
 use Rattle.oc_linking.specs.Parts as parts
-use Rattle.oc_linking.specs.Parts.{is_local}
-use Rattle.oc_linking.specs.Placing.{Site, Placement, nowhere, spread, spread_over}
-use Rattle.oc_linking.specs.Values.{Valued, Valuation, worthless}
-use Rattle.oc_linking.specs.Images.{Patches, overlay, overlays}
-use Rattle.oc_linking.specs.Linking.{patch_of, flags_in, spread_in}
-use Rattle.oc_linking.specs.Shows.{Apart, live_of, under_of, unders}
 use Rattle.oc_linking.proofs.Dropping.{spread-carried}
 use Rattle.oc_algebra.specs.Residues.{residue_of}
-use Rattle.oc_chains.specs.declared.field.Field.{Field}
-use Rattle.oc_chains.specs.Lists.{list_of}
-use Rattle.oc_neutral.specs.declared.symbol.Symbol.{Symbol}
-use Rattle.oc_neutral.specs.declared.reloc.Target.{Target}
-use Rattle.oc_neutral.specs.declared.reloc.Target.TheVariants as target
-use Rattle.oc_neutral.specs.declared.reloc.Reloc.{Reloc}
-use Rattle.oc_neutral.specs.Objects.{Object, reloc_among, reloc_at}
-use Rattle.oc_neutral.specs.Invariants.{IsThere, IsLessThere, IsNormal, IsHeld, IsObject}
-use Rattle.oc_neutral.specs.Faces.{contents_of, field_of}
-use Rattle.oc_neutral.specs.Normal.{local_place, place_among}
-use Rattle.oc_neutral.specs.Worth.{target_worth, base_of, less_of, residue_at}
+use Rattle.oc_chains.specs.{declared.field.Field.{Field}, Lists.{list_of}}
+use Rattle.oc_neutral.specs.{declared.symbol.Symbol.{Symbol}, declared.reloc.Target.{Target}, declared.reloc.Reloc.{Reloc}}
+use Rattle.oc_neutral.specs.{Objects.{Object, reloc_among, reloc_at}, Invariants.{IsThere, IsLessThere, IsNormal, IsHeld, IsObject}}
+use Rattle.oc_neutral.specs.{Faces.{contents_of, field_of}, Normal.{local_place, place_among}, Worth.{target_worth, base_of, less_of, residue_at}}
 use Rattle.oc_neutral.specs.Dialects.{Dialect, is_folded, patches_in}
+use Rattle.oc_neutral.specs.Without.{symbols_stay, is_dropped, binding_section, lies_in_dropped, targets_dropped, takes_dropped, refers_to_dropped, new_position, moved_target, moved_less, moved_reloc, moved_field, groups_left, regrouped, IsDetached}
+use Rattle.oc_neutral.specs.declared.reloc.Target.TheVariants as target
 use Rattle.oc_shows.specs.Shows.{patches_of, IsTrueToFixed, Shows}
 use Rattle.oc_shows.proofs.Blank.{found_field}
-use Rattle.oc_neutral.proofs.NormalLemmas.{place_among-there}
-use Rattle.oc_neutral.proofs.Positions.{there_at}
-use Rattle.oc_neutral.proofs.Mapped.{list_map}
-use Rattle.oc_neutral.specs.Without.{symbols_stay, is_dropped, binding_section, lies_in_dropped, targets_dropped, takes_dropped, refers_to_dropped, new_position, moved_target, moved_less, moved_reloc, moved_field, groups_left, regrouped, IsDetached}
-use Rattle.oc_drop.specs.Dropping.{dropping_fault, stays, left}
-use Rattle.oc_drop.specs.KeptShows.{kept_patches, ShowsKept, DroppedShowsKept}
-use Rattle.oc_neutral.proofs.KeptLists.{Stays}
-use Rattle.oc_neutral.proofs.LeftObject.{all_both}
+use Rattle.oc_neutral.proofs.{NormalLemmas.{place_among-there}, Positions.{there_at}, Mapped.{list_map}, KeptLists.{Stays}, LeftObject.{all_both}}
 use Rattle.oc_neutral.proofs.LeftParts.{symbol_there}
-use Rattle.oc_drop.proofs.DroppedSymbols.{carried_back, nonlocal-clear}
-use Rattle.oc_drop.proofs.DroppedSections.{kept_map, map_twice, flags-framed, stay-shown}
-use Rattle.oc_drop.proofs.StepLaws.{unless_ok}
+use Rattle.oc_drop.specs.{Dropping.{dropping_fault, stays, left}, KeptShows.{kept_patches, ShowsKept, DroppedShowsKept}}
+use Rattle.oc_drop.proofs.{DroppedSymbols.{carried_back, nonlocal-clear}, DroppedSections.{kept_map, map_twice, flags-framed, stay-shown}, StepLaws.{unless_ok}}
 use Rattle.oc_drop.proofs.Detached.{detached}
 
 -- ... lists

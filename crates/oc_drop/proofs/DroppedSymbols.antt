@@ -1,28 +1,18 @@
 -- Dropping leaves of the symbols of a file what it leaves of those of the object.
 use Rattle.std.proofs.Common.{◌≡◌, ◌≢◌, ℕ, zero, suc, ◌<◌, Bool, true, false, not, ◌&&◌, List, [], ◌∷◌, length, map, get_or, Some, refl, sym, ◌∙◌, ap, subst, arith}
-use Rattle.std.specs.Prelude.{slice_get}
-use Rattle.std.specs.List.{AllByRecursion}
-use Rattle.std.specs.Option.{option_map_or}
-use Rattle.std.proofs.lemmas.Bool.{true≢false, not-false}
-use Rattle.std.proofs.lemmas.Option.{slice_get_within}
-use Rattle.oc_linking.specs.declared.terms.Value.{Value}
+use Rattle.std.specs.{Prelude.{slice_get}, List.{AllByRecursion}, Option.{option_map_or}}
+use Rattle.std.proofs.lemmas.{Bool.{true≢false, not-false}, Option.{slice_get_within}}
+use Rattle.oc_linking.specs.{declared.terms.Value.{Value}, declared.terms.Fallback.{Fallback}, declared.terms.Binding.{Binding}}
+use Rattle.oc_linking.specs.{declared.terms.Binding.TheVariants.{Local, Global, Undefined, Common, Weak}, Keeping.{carried_of, kept_of}, Parts.{is_local}}
 use Rattle.oc_linking.specs.declared.terms.Value.TheVariants as value
-use Rattle.oc_linking.specs.declared.terms.Fallback.{Fallback}
 use Rattle.oc_linking.specs.declared.terms.Fallback.TheVariants as fallback
-use Rattle.oc_linking.specs.declared.terms.Binding.{Binding}
-use Rattle.oc_linking.specs.declared.terms.Binding.TheVariants.{Local, Global, Undefined, Common, Weak}
-use Rattle.oc_linking.specs.Keeping.{carried_of, kept_of}
-use Rattle.oc_linking.specs.Parts.{is_local}
 use Rattle.oc_linking.proofs.Raising.{raised_value, raised_fallback, raised_binding}
-use Rattle.oc_neutral.specs.declared.symbol.Symbol.{Symbol}
-use Rattle.oc_neutral.specs.Objects.{Object}
-use Rattle.oc_neutral.specs.Faces.{number_of, shown_fallback, shown_binding}
+use Rattle.oc_neutral.specs.{declared.symbol.Symbol.{Symbol}, Objects.{Object}, Faces.{number_of, shown_fallback, shown_binding}}
 use Rattle.oc_neutral.specs.Invariants.{HasOffset, IsValue, IsFallback, IsBinding, IsSymbol}
-use Rattle.oc_neutral.proofs.Positions.{each_at, each_weaker}
 use Rattle.oc_neutral.specs.Without.{symbols_stay, is_dropped, value_section, binding_section, lies_in_dropped, new_position, moved_value, moved_fallback, moved_binding, with_binding, IsDetached}
-use Rattle.oc_drop.specs.KeptShows.{left_symbols}
-use Rattle.oc_neutral.proofs.KeptLists.{Stays, all_kept}
+use Rattle.oc_neutral.proofs.{Positions.{each_at, each_weaker}, KeptLists.{Stays, all_kept}}
 use Rattle.oc_neutral.proofs.LeftParts.{flags, moved_symbol, left_object, symbol_there, strong_outer}
+use Rattle.oc_drop.specs.KeptShows.{left_symbols}
 use Rattle.oc_drop.proofs.Filed.{filed, all_filed, Names, AllNamed, AreSingle, numbers_of}
 
 -- one that stays comes back to its position

@@ -1,25 +1,17 @@
 -- What is dropped, what stays and where, computed on small objects.
 use Rattle.std.proofs.Common.{◌≡◌, true, false, Bool, List, [], ◌∷◌, refl}
 use Rattle.std.specs.Prelude.{codes, Some, None, Ok, Err, pos}
-use Rattle.oc_base.specs.declared.code.Code.TheVariants.{SymbolInDropped, RelocToDropped}
-use Rattle.oc_base.specs.declared.format.Format.TheVariants.{Elf32}
-use Rattle.oc_linking.specs.declared.terms.Keep.{Keep}
-use Rattle.oc_linking.specs.declared.terms.Kind.TheVariants.{Code, Data, Debug}
-use Rattle.oc_linking.specs.declared.terms.Check.TheVariants.{Wrap}
-use Rattle.oc_linking.specs.declared.terms.Base.TheVariants as base
-use Rattle.oc_linking.specs.declared.terms.Less.{Less}
-use Rattle.oc_linking.specs.declared.terms.Less.TheVariants as less
-use Rattle.oc_linking.specs.declared.terms.Value.TheVariants.{Place, Absolute}
-use Rattle.oc_linking.specs.declared.terms.Fallback.TheVariants as fallback
+use Rattle.oc_base.specs.{declared.code.Code.TheVariants.{SymbolInDropped, RelocToDropped}, declared.format.Format.TheVariants.{Elf32}}
+use Rattle.oc_linking.specs.{declared.terms.Keep.{Keep}, declared.terms.Kind.TheVariants.{Code, Data, Debug}, declared.terms.Check.TheVariants.{Wrap}}
+use Rattle.oc_linking.specs.{declared.terms.Less.{Less}, declared.terms.Value.TheVariants.{Place, Absolute}}
 use Rattle.oc_linking.specs.declared.terms.Binding.TheVariants.{Local, Global, Weak}
+use Rattle.oc_linking.specs.declared.terms.Base.TheVariants as base
+use Rattle.oc_linking.specs.declared.terms.Less.TheVariants as less
+use Rattle.oc_linking.specs.declared.terms.Fallback.TheVariants as fallback
 use Rattle.oc_chains.specs.declared.field.Field.{Field}
-use Rattle.oc_neutral.specs.declared.symbol.Symbol.{Symbol}
-use Rattle.oc_neutral.specs.declared.reloc.Target.{Target}
+use Rattle.oc_neutral.specs.{declared.symbol.Symbol.{Symbol}, declared.reloc.Target.{Target}, declared.reloc.Reloc.{Reloc}, Objects.{Object}}
 use Rattle.oc_neutral.specs.declared.reloc.Target.TheVariants as target
-use Rattle.oc_neutral.specs.declared.reloc.Reloc.{Reloc}
-use Rattle.oc_neutral.specs.Objects.{Object}
-use Rattle.oc_drop.specs.Steps.{edit_fault}
-use Rattle.oc_drop.specs.Dropping.{dropped}
+use Rattle.oc_drop.specs.{Steps.{edit_fault}, Dropping.{dropped}}
 use Rattle.oc_drop.proofs.Examples.{symbol, section, object, field, group}
 
 -- what is kept of debug, exceptions and notes

@@ -1,23 +1,12 @@
 -- Small objects on which the definitions are computed.
 use Rattle.std.specs.Prelude.{ℕ, false, List, codes, length, Option, ℤ}
 use Rattle.oc_base.specs.declared.format.Format.{Format}
-use Rattle.oc_linking.specs.declared.terms.Kind.{Kind}
-use Rattle.oc_linking.specs.declared.terms.Width.TheVariants.{Four}
-use Rattle.oc_linking.specs.declared.terms.Check.{Check}
-use Rattle.oc_linking.specs.declared.terms.Base.{Base}
-use Rattle.oc_linking.specs.declared.terms.Less.{Less}
-use Rattle.oc_linking.specs.declared.terms.Hint.TheVariants.{Plain}
-use Rattle.oc_linking.specs.declared.terms.Mark.TheVariants.{NoType}
-use Rattle.oc_linking.specs.declared.terms.Visibility.TheVariants.{Default}
-use Rattle.oc_linking.specs.declared.terms.Binding.{Binding}
-use Rattle.oc_chains.specs.declared.field.Field.{Field}
-use Rattle.oc_chains.specs.Lists.{Lists}
-use Rattle.oc_neutral.specs.declared.group.Group.{Group}
-use Rattle.oc_neutral.specs.declared.section.Section.{Section}
-use Rattle.oc_neutral.specs.declared.symbol.Symbol.{Symbol}
-use Rattle.oc_neutral.specs.declared.reloc.Target.{Target}
-use Rattle.oc_neutral.specs.declared.reloc.Reloc.{Reloc}
-use Rattle.oc_neutral.specs.Objects.{Object}
+use Rattle.oc_linking.specs.{declared.terms.Kind.{Kind}, declared.terms.Width.TheVariants.{Four}, declared.terms.Check.{Check}, declared.terms.Base.{Base}}
+use Rattle.oc_linking.specs.{declared.terms.Less.{Less}, declared.terms.Hint.TheVariants.{Plain}, declared.terms.Mark.TheVariants.{NoType}}
+use Rattle.oc_linking.specs.{declared.terms.Visibility.TheVariants.{Default}, declared.terms.Binding.{Binding}}
+use Rattle.oc_chains.specs.{declared.field.Field.{Field}, Lists.{Lists}}
+use Rattle.oc_neutral.specs.{declared.group.Group.{Group}, declared.section.Section.{Section}, declared.symbol.Symbol.{Symbol}, declared.reloc.Target.{Target}}
+use Rattle.oc_neutral.specs.{declared.reloc.Reloc.{Reloc}, Objects.{Object}}
 
 -- a symbol of that name, binding and number
 abbrev pub symbol : List ℕ → Binding → ℕ → Symbol

@@ -1,40 +1,25 @@
 -- Where every section is kept, nothing is dropped.
 use Rattle.std.proofs.Common.{◌≡◌, ℕ, zero, suc, ◌+◌, ◌<◌, ◌≤◌, Bool, true, false, cond, not, ◌&&◌, ◌||◌, eqb, List, [], ◌∷◌, ◌++◌, length, map, Option, Some, None, Ok, inl, inr, refl, sym, ◌∙◌, ap, subst, arith}
-use Rattle.std.specs.Prelude.{slice_get, nat_eq, filter_map}
-use Rattle.std.specs.List.{AllByRecursion, list_all, range_with_len, position_from, cons_option}
+use Rattle.std.specs.{Prelude.{slice_get, nat_eq, filter_map}, List.{AllByRecursion, list_all, range_with_len, position_from, cons_option}}
 use Rattle.std.specs.Option.{option_map, option_map_or, option_and_then, is_some}
-use Rattle.std.proofs.lemmas.Bool.{true≢false, cases_lt, eq-eqb, eqb-true, ne_eqb}
-use Rattle.std.proofs.lemmas.Bool.Decides.{nat_tests}
-use Rattle.std.proofs.lemmas.List.{length-map}
+use Rattle.std.proofs.lemmas.{Bool.{true≢false, cases_lt, eq-eqb, eqb-true, ne_eqb}, Bool.Decides.{nat_tests}, List.{length-map}}
 use Rattle.std.proofs.lemmas.Option.{none-some, same_Some, slice_get-map, slice_get_within, get_or_from_slice_get}
-use Rattle.oc_linking.specs.declared.terms.Value.{Value}
+use Rattle.oc_linking.specs.{declared.terms.Value.{Value}, declared.terms.Fallback.{Fallback}, declared.terms.Binding.{Binding}}
+use Rattle.oc_linking.specs.{declared.terms.Binding.TheVariants.{Local, Global, Undefined, Common, Weak}, declared.terms.Less.{Less}}
+use Rattle.oc_linking.specs.{declared.terms.Keep.{Keep}, Keeping.{keeps, kept_of}, Numbers.{or_else}, Parts.{is_local}}
 use Rattle.oc_linking.specs.declared.terms.Value.TheVariants as value
-use Rattle.oc_linking.specs.declared.terms.Fallback.{Fallback}
 use Rattle.oc_linking.specs.declared.terms.Fallback.TheVariants as fallback
-use Rattle.oc_linking.specs.declared.terms.Binding.{Binding}
-use Rattle.oc_linking.specs.declared.terms.Binding.TheVariants.{Local, Global, Undefined, Common, Weak}
-use Rattle.oc_linking.specs.declared.terms.Less.{Less}
 use Rattle.oc_linking.specs.declared.terms.Less.TheVariants as less
-use Rattle.oc_linking.specs.declared.terms.Keep.{Keep}
-use Rattle.oc_linking.specs.Keeping.{keeps, kept_of}
-use Rattle.oc_linking.specs.Numbers.{or_else}
-use Rattle.oc_linking.specs.Parts.{is_local}
-use Rattle.oc_chains.specs.declared.field.Field.{Field}
-use Rattle.oc_chains.specs.Lists.{list_of}
-use Rattle.oc_neutral.specs.declared.group.Group.{Group}
-use Rattle.oc_neutral.specs.declared.section.Section.{Section}
-use Rattle.oc_neutral.specs.declared.symbol.Symbol.{Symbol}
-use Rattle.oc_neutral.specs.declared.reloc.Reloc.{Reloc}
-use Rattle.oc_neutral.specs.declared.reloc.Target.{Target}
-use Rattle.oc_neutral.specs.declared.reloc.Target.TheVariants as target
-use Rattle.oc_neutral.specs.Objects.{Object}
+use Rattle.oc_chains.specs.{declared.field.Field.{Field}, Lists.{list_of}}
+use Rattle.oc_neutral.specs.{declared.group.Group.{Group}, declared.section.Section.{Section}, declared.symbol.Symbol.{Symbol}, declared.reloc.Reloc.{Reloc}}
+use Rattle.oc_neutral.specs.{declared.reloc.Target.{Target}, Objects.{Object}}
 use Rattle.oc_neutral.specs.Invariants.{HasOffset, IsValue, IsFallback, IsBinding, IsSymbol, IsThere, IsLessThere, IsNormal, IsHeld, IsObject, IsMember, IsNext, AreBegun, begun_with, groups_of}
-use Rattle.oc_neutral.proofs.Positions.{each_at, there_at}
-use Rattle.oc_drop.specs.Steps.{first_in, unless, symbol_fault, field_fault, fault_in, first_field}
-use Rattle.oc_base.specs.declared.code.Code.TheVariants.{SymbolInDropped, RelocToDropped}
-use Rattle.oc_drop.specs.Laws.{AllAreKept, NothingIsDropped}
-use Rattle.oc_drop.specs.Dropping.{stays, sections_stay, dropped_symbol, dropped_reference, dropping_fault, dropped}
 use Rattle.oc_neutral.specs.Without.{is_dropped, binding_section, lies_in_dropped, symbols_stay, refers_to_dropped, targets_dropped, takes_dropped, new_position, moved_value, moved_fallback, moved_binding, with_binding, moved_symbol, moved_target, moved_less, moved_field, place_in, begun_by, groups_left, regrouped, left_of}
+use Rattle.oc_neutral.specs.declared.reloc.Target.TheVariants as target
+use Rattle.oc_neutral.proofs.Positions.{each_at, there_at}
+use Rattle.oc_drop.specs.{Steps.{first_in, unless, symbol_fault, field_fault, fault_in, first_field}, Laws.{AllAreKept, NothingIsDropped}}
+use Rattle.oc_drop.specs.Dropping.{stays, sections_stay, dropped_symbol, dropped_reference, dropping_fault, dropped}
+use Rattle.oc_base.specs.declared.code.Code.TheVariants.{SymbolInDropped, RelocToDropped}
 use Rattle.oc_drop.proofs.FirstLaws.{none_upto}
 
 -- ... lists

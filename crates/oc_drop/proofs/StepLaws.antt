@@ -1,12 +1,9 @@
 -- How the refusals of steps follow from those of their parts.
 use Rattle.std.proofs.Common.{◌≡◌, Option, Some, None, Result, Ok, refl, ◌∙◌, ap}
-use Rattle.oc_base.specs.declared.fault.Fault.{Fault}
-use Rattle.oc_base.specs.declared.stop.Stop.{Stop}
+use Rattle.oc_base.specs.{declared.fault.Fault.{Fault}, declared.stop.Stop.{Stop}, Stops.{IsStop}}
 use Rattle.oc_base.specs.declared.stop.Stop.TheVariants as stop
-use Rattle.oc_base.specs.Stops.{IsStop}
 use Rattle.oc_linking.specs.Numbers.{or_else}
-use Rattle.oc_drop.specs.Refusals.{IsStepRefusal}
-use Rattle.oc_drop.specs.Steps.{unless, then_by}
+use Rattle.oc_drop.specs.{Refusals.{IsStepRefusal}, Steps.{unless, then_by}}
 
 -- the first of two faults
 pub refused_first : (o p : Option Fault) (e : Stop) → IsStop o e → IsStop (or_else o p) e

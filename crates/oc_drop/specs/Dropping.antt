@@ -1,16 +1,9 @@
 -- Sections that are not kept are dropped from an object, and Locals with them (our profile).
 use Rattle.std.specs.Prelude.{ℕ, Bool, not, ◌&&◌, if◌then◌else◌, List, map, Option, Some, None, Result}
-use Rattle.oc_base.specs.declared.code.Code.TheVariants.{SymbolInDropped, RelocToDropped}
-use Rattle.oc_base.specs.declared.fault.Fault.{Fault}
-use Rattle.oc_linking.specs.declared.terms.Keep.{Keep}
-use Rattle.oc_linking.specs.Keeping.{keeps}
-use Rattle.oc_linking.specs.Parts.{is_local}
-use Rattle.oc_linking.specs.Numbers.{or_else}
+use Rattle.oc_base.specs.{declared.code.Code.TheVariants.{SymbolInDropped, RelocToDropped}, declared.fault.Fault.{Fault}}
+use Rattle.oc_linking.specs.{declared.terms.Keep.{Keep}, Keeping.{keeps}, Parts.{is_local}, Numbers.{or_else}}
 use Rattle.oc_chains.specs.declared.field.Field.{Field}
-use Rattle.oc_neutral.specs.declared.section.Section.{Section}
-use Rattle.oc_neutral.specs.declared.symbol.Symbol.{Symbol}
-use Rattle.oc_neutral.specs.declared.reloc.Reloc.{Reloc}
-use Rattle.oc_neutral.specs.Objects.{Object}
+use Rattle.oc_neutral.specs.{declared.section.Section.{Section}, declared.symbol.Symbol.{Symbol}, declared.reloc.Reloc.{Reloc}, Objects.{Object}}
 use Rattle.oc_neutral.specs.Without.{is_dropped, lies_in_dropped, refers_to_dropped, without_of}
 use Rattle.oc_drop.specs.Steps.{first_in, unless, symbol_fault, field_fault, fault_in, first_field}
 

@@ -1,20 +1,12 @@
 -- When an object shows the kept fields of a file (our profile).
 use Rattle.std.specs.Prelude.{◌≡◌, ℕ, Bool, true, false, List, map, Some, Ok}
-use Rattle.oc_linking.specs.declared.terms.Keep.{Keep}
-use Rattle.oc_linking.specs.declared.terms.Patch.{Patch}
-use Rattle.oc_linking.specs.Keeping.{carried_of, kept_of}
-use Rattle.oc_linking.specs.Placing.{Placement}
-use Rattle.oc_linking.specs.Values.{Valuation}
+use Rattle.oc_linking.specs.{declared.terms.Keep.{Keep}, declared.terms.Patch.{Patch}, Keeping.{carried_of, kept_of}, Placing.{Placement}, Values.{Valuation}}
 use Rattle.oc_linking.specs.Images.{Patches, overlays, overflows}
 use Rattle.oc_linking.specs.Linking as linking
 use Rattle.oc_linking.specs.Shows as shown
-use Rattle.oc_neutral.specs.declared.symbol.Symbol.{Symbol}
-use Rattle.oc_neutral.specs.Objects.{Object}
-use Rattle.oc_neutral.specs.Invariants.{IsObject}
-use Rattle.oc_neutral.specs.Faces.{contents_of}
-use Rattle.oc_neutral.specs.Dialects.{Dialect, is_folded}
-use Rattle.oc_shows.specs.Shows.{patches_of, IsTrueToFixed, Shows}
+use Rattle.oc_neutral.specs.{declared.symbol.Symbol.{Symbol}, Objects.{Object}, Invariants.{IsObject}, Faces.{contents_of}, Dialects.{Dialect, is_folded}}
 use Rattle.oc_neutral.specs.Without.{symbols_stay}
+use Rattle.oc_shows.specs.Shows.{patches_of, IsTrueToFixed, Shows}
 use Rattle.oc_drop.specs.Dropping.{dropped}
 
 -- the symbols that do not lie in a dropped section

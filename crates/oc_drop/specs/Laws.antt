@@ -1,11 +1,7 @@
 -- Laws of dropping (our profile).
 use Rattle.std.specs.Prelude.{◌≡◌, ℕ, ◌<◌, Bool, true, List, length, slice_get, get_or, Some, Ok}
-use Rattle.oc_linking.specs.declared.terms.Keep.{Keep}
-use Rattle.oc_linking.specs.Keeping.{keeps}
-use Rattle.oc_neutral.specs.declared.section.Section.{Section}
-use Rattle.oc_neutral.specs.Objects.{Object}
-use Rattle.oc_neutral.specs.Invariants.{IsObject}
-use Rattle.oc_neutral.specs.Without.{new_position, positions_from}
+use Rattle.oc_linking.specs.{declared.terms.Keep.{Keep}, Keeping.{keeps}}
+use Rattle.oc_neutral.specs.{declared.section.Section.{Section}, Objects.{Object}, Invariants.{IsObject}, Without.{new_position, positions_from}}
 use Rattle.oc_drop.specs.Dropping.{dropped}
 
 -- the table of new positions has that of each

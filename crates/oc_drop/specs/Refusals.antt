@@ -1,7 +1,6 @@
 -- What a refusal of the edits means (our profile).
 use Rattle.std.specs.Prelude.{◌≡◌, Result, Err}
-use Rattle.oc_base.specs.declared.fault.Fault.{Fault}
-use Rattle.oc_base.specs.declared.stop.Stop.{Stop}
+use Rattle.oc_base.specs.{declared.fault.Fault.{Fault}, declared.stop.Stop.{Stop}}
 use Rattle.oc_base.specs.declared.stop.Stop.TheVariants as stop
 
 -- the fault is that of the step; lack of memory needs no cause

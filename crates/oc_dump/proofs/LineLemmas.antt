@@ -1,10 +1,7 @@
 -- One more line.
 use Rattle.std.proofs.Common.{◌≡◌, ℕ, ◌+◌, List, [], ◌∷◌, ◌++◌, take, ◌∙◌, ap}
-use Rattle.std.specs.Prelude.{slice_get, Some}
-use Rattle.std.specs.List.{flat_map}
-use Rattle.std.proofs.lemmas.List.{append-nil, take_more}
-use Rattle.std.proofs.lemmas.List.Concat.{flat_map-append}
-use Rattle.std.proofs.lemmas.Option.{slice_get_within, get_or_from_slice_get}
+use Rattle.std.specs.{Prelude.{slice_get, Some}, List.{flat_map}}
+use Rattle.std.proofs.lemmas.{List.{append-nil, take_more}, List.Concat.{flat_map-append}, Option.{slice_get_within, get_or_from_slice_get}}
 
 -- the lines up to the next
 pub flat_map-next : {X : Type 0} (f : X → List ℕ) (xs : List X) (i : ℕ) (x : X) → slice_get xs i ≡ Some x → flat_map f (take (i + 1) xs) ≡ flat_map f (take i xs) ++ f x

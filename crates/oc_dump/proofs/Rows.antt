@@ -1,19 +1,12 @@
 -- Lines of symbols: the first two by hand from the description of the command, the others from its rules.
 use Rattle.std.proofs.Common.{◌≡◌, ℕ, false, List, [], ◌∷◌, ◌++◌, refl}
-use Rattle.std.specs.Prelude.{codes, None}
-use Rattle.std.specs.Fmt.{digits}
-use Rattle.oc_base.specs.declared.format.Format.{Format}
-use Rattle.oc_base.specs.declared.format.Format.TheVariants.{Elf32, Elf64}
-use Rattle.oc_linking.specs.declared.terms.Kind.TheVariants.{Code}
-use Rattle.oc_linking.specs.declared.terms.Mark.TheVariants.{NoType}
-use Rattle.oc_linking.specs.declared.terms.Visibility.TheVariants.{Default}
+use Rattle.std.specs.{Prelude.{codes, None}, Fmt.{digits}}
+use Rattle.oc_base.specs.{declared.format.Format.{Format}, declared.format.Format.TheVariants.{Elf32, Elf64}}
+use Rattle.oc_linking.specs.{declared.terms.Kind.TheVariants.{Code}, declared.terms.Mark.TheVariants.{NoType}, declared.terms.Visibility.TheVariants.{Default}}
+use Rattle.oc_linking.specs.{declared.terms.Binding.{Binding}, declared.terms.Binding.TheVariants.{Local, Global, Undefined, Common, Weak}}
 use Rattle.oc_linking.specs.declared.terms.Value.TheVariants as value
 use Rattle.oc_linking.specs.declared.terms.Fallback.TheVariants as fallback
-use Rattle.oc_linking.specs.declared.terms.Binding.{Binding}
-use Rattle.oc_linking.specs.declared.terms.Binding.TheVariants.{Local, Global, Undefined, Common, Weak}
-use Rattle.oc_neutral.specs.declared.section.Section.{Section}
-use Rattle.oc_neutral.specs.declared.symbol.Symbol.{Symbol}
-use Rattle.oc_neutral.specs.Objects.{Object}
+use Rattle.oc_neutral.specs.{declared.section.Section.{Section}, declared.symbol.Symbol.{Symbol}, Objects.{Object}}
 use Rattle.oc_dump.specs.Lines.{hex, shown_name, line_of, symbol_lines_of}
 
 -- a symbol of that name and binding

@@ -2,8 +2,7 @@
 use Rattle.std.proofs.Common.{◌≡◌, ℕ, ◌*◌, ◌≤◌, Bool, true, false, arith}
 use mir.Val.{bool_byte}
 use Rattle.oc_elf.specs.Shdr.{shdr_size}
-use Rattle.oc_base.specs.declared.format.Word.{Word}
-use Rattle.oc_base.specs.declared.format.Word.TheVariants.{W32, W64}
+use Rattle.oc_base.specs.{declared.format.Word.{Word}, declared.format.Word.TheVariants.{W32, W64}}
 
 -- at least 40 for each
 pub size_least : (word : Word) (n : ℕ) → 40 * n ≤ shdr_size word * n

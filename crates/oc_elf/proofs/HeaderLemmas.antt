@@ -1,21 +1,13 @@
 -- What a file has whose header has no fault.
 use Rattle.std.proofs.Common.{◌≡◌, ℕ, Bool, sym, ◌+◌, ◌*◌, ◌≤◌, true, false, cond, eqb, List, [], ◌∷◌, length, map, None, refl, arith}
-use Rattle.std.specs.Prelude.{not, ◌&&◌, ◌||◌, nat_lt}
-use Rattle.std.specs.List.{AllByRecursion, range_with_len}
-use Rattle.std.proofs.lemmas.Bool.{eqb-true, true≢false}
-use Rattle.std.proofs.lemmas.Bool.Decides.{nat_tests}
-use Rattle.oc_base.specs.declared.format.Word.{Word}
-use Rattle.oc_elf.specs.declared.class.ElfClass.{ElfClass}
-use Rattle.oc_base.specs.declared.code.Code.TheVariants.{BadHeader, Short}
+use Rattle.std.specs.{Prelude.{not, ◌&&◌, ◌||◌, nat_lt}, List.{AllByRecursion, range_with_len}}
+use Rattle.std.proofs.lemmas.{Bool.{eqb-true, true≢false}, Bool.Decides.{nat_tests}}
+use Rattle.oc_base.specs.{declared.format.Word.{Word}, declared.code.Code.TheVariants.{BadHeader, Short}}
+use Rattle.oc_elf.specs.{declared.class.ElfClass.{ElfClass}, declared.ehdr.Ehdr.{Ehdr}, declared.shdr.Shdr.{Shdr}, Shdr.{shdr_size}}
+use Rattle.oc_elf.specs.{Frames.{headers_of, header_of, header_at, framed, count_by, big_count, shdr_count, names_number}, Classes.{is_big, word_of}}
+use Rattle.oc_elf.specs.{Laid.{HasHeader}, Headers.{header_conditions, header_fault, plain_conditions, big_conditions, table_conditions, is_extended}}
 use Rattle.oc_linking.specs.FirstFault.{Condition, first_broken}
 use Rattle.oc_shelf.proofs.ReadingLaws.StageLemmas.{all_hold}
-use Rattle.oc_elf.specs.declared.ehdr.Ehdr.{Ehdr}
-use Rattle.oc_elf.specs.declared.shdr.Shdr.{Shdr}
-use Rattle.oc_elf.specs.Shdr.{shdr_size}
-use Rattle.oc_elf.specs.Frames.{headers_of, header_of, header_at, framed, count_by, big_count, shdr_count, names_number}
-use Rattle.oc_elf.specs.Classes.{is_big, word_of}
-use Rattle.oc_elf.specs.Laid.{HasHeader}
-use Rattle.oc_elf.specs.Headers.{header_conditions, header_fault, plain_conditions, big_conditions, table_conditions, is_extended}
 
 -- a table of a file header that is not extended, by cases on whether there is one
 plain_lies : (w : Word) (size : ℕ) (h : Ehdr) → (eqb h.e_shnum 0 && not (eqb h.e_shoff 0) || eqb h.e_shstrndx 65535) ≡ false → AllByRecursion (λ (c : Condition). c.0 ≡ false) (plain_conditions w size h) → h.e_shoff + shdr_size w * h.e_shnum ≤ size

@@ -3,9 +3,7 @@ use Rattle.std.specs.Prelude.{ℕ, max, if◌then◌else◌, List, length, Optio
 use Rattle.oc_linking.specs.Parts.{Section}
 use Rattle.oc_neutral.specs.Elf.Kinds.{elf_tag}
 use Rattle.oc_shelf.specs.Reading.Collected.{collected, position_in}
-use Rattle.oc_elf.specs.declared.shdr.Shdr.{Shdr}
-use Rattle.oc_elf.specs.Frames.{FileFrame, header_at}
-use Rattle.oc_elf.specs.Sections.{is_carried, section_name, kind_of, contents_of}
+use Rattle.oc_elf.specs.{declared.shdr.Shdr.{Shdr}, Frames.{FileFrame, header_at}, Sections.{is_carried, section_name, kind_of, contents_of}}
 use Rattle.oc_elf.specs.Groups.{group_key}
 
 -- section k with this header, which is carried; the alignment 0 is 1

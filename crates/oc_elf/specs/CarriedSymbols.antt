@@ -1,21 +1,13 @@
 -- The symbols that are carried (gABI, "Symbol Table"; our profile).
-use Rattle.std.specs.Prelude.{ℕ, false, ◌&&◌, ◌||◌, nat_eq, nat_lt, Bool, bytes_eq, if◌then◌else◌, List, [], Option, Some, None}
-use Rattle.std.specs.Option.{option_map}
-use Rattle.oc_linking.specs.declared.terms.Value.{Value}
+use Rattle.std.specs.{Prelude.{ℕ, false, ◌&&◌, ◌||◌, nat_eq, nat_lt, Bool, bytes_eq, if◌then◌else◌, List, [], Option, Some, None}, Option.{option_map}}
+use Rattle.oc_linking.specs.{declared.terms.Value.{Value}, declared.terms.Binding.{Binding}}
+use Rattle.oc_linking.specs.{declared.terms.Binding.TheVariants.{Local, Global, Undefined, Common, Weak}, Parts.{Symbol}}
 use Rattle.oc_linking.specs.declared.terms.Value.TheVariants as value
 use Rattle.oc_linking.specs.declared.terms.Fallback.TheVariants as fallback
-use Rattle.oc_linking.specs.declared.terms.Binding.{Binding}
-use Rattle.oc_linking.specs.declared.terms.Binding.TheVariants.{Local, Global, Undefined, Common, Weak}
-use Rattle.oc_linking.specs.Parts.{Symbol}
 use Rattle.oc_shelf.specs.Reading.Collected.{collected, position_in}
-use Rattle.oc_elf.specs.declared.constants.TheConstants.{SHN_LORESERVE}
-use Rattle.oc_elf.specs.declared.constants.TheConstants.{SHN_UNDEF, SHN_ABS, SHN_COMMON, STB_WEAK, STT_FILE}
-use Rattle.oc_elf.specs.declared.sym.Sym.{Sym}
-use Rattle.oc_elf.specs.Sym.{bind_of, type_of}
-use Rattle.oc_elf.specs.Frames.{FileFrame}
-use Rattle.oc_elf.specs.Tables.{symbol_count, entry_of}
-use Rattle.oc_elf.specs.Entries.{name_of, is_local_entry, is_section_symbol, mark_of, visibility_of}
-use Rattle.oc_elf.specs.CarriedSections.{position_of}
+use Rattle.oc_elf.specs.{declared.constants.TheConstants.{SHN_LORESERVE}, declared.constants.TheConstants.{SHN_UNDEF, SHN_ABS, SHN_COMMON, STB_WEAK, STT_FILE}}
+use Rattle.oc_elf.specs.{declared.sym.Sym.{Sym}, Sym.{bind_of, type_of}, Frames.{FileFrame}, Tables.{symbol_count, entry_of}}
+use Rattle.oc_elf.specs.{Entries.{name_of, is_local_entry, is_section_symbol, mark_of, visibility_of}, CarriedSections.{position_of}}
 
 -- the position of a symbol's section among the carried ones
 abbrev pub home_of : FileFrame → Sym → Option ℕ

@@ -1,11 +1,8 @@
 -- The classes of files, and what differs by their words (gABI, "ELF Identification" and "ELF Header"; i386 and x86-64 psABI).
 use Rattle.std.specs.Prelude.{ℕ, Bool, true, false}
-use Rattle.oc_base.specs.declared.format.Word.{Word}
-use Rattle.oc_base.specs.declared.format.Word.TheVariants.{W32, W64}
-use Rattle.oc_base.specs.declared.format.Format.{Format}
+use Rattle.oc_base.specs.{declared.format.Word.{Word}, declared.format.Word.TheVariants.{W32, W64}, declared.format.Format.{Format}}
 use Rattle.oc_base.specs.declared.format.Format.TheVariants.{Elf32, Elf64, BigElf32, BigElf64}
-use Rattle.oc_elf.specs.declared.constants.TheConstants.{EM_386, EM_X86_64, SHT_REL, SHT_RELA}
-use Rattle.oc_elf.specs.declared.class.ElfClass.{ElfClass}
+use Rattle.oc_elf.specs.{declared.constants.TheConstants.{EM_386, EM_X86_64, SHT_REL, SHT_RELA}, declared.class.ElfClass.{ElfClass}}
 use Rattle.oc_elf.specs.declared.class.ElfClass.TheVariants.{Class32, Class64, Big32, Big64}
 
 -- the size of an address

@@ -1,22 +1,11 @@
 -- ELF for i386 and for x86-64, each as one record of functions of a file's bytes (gABI; i386 and x86-64 psABI; our profile).
 use Rattle.std.specs.Prelude.{ℕ, refl, List, ◌∷◌, ◌++◌, Option}
 use Rattle.oc_base.specs.declared.fault.Fault.{Fault}
-use Rattle.oc_linking.specs.declared.terms.Keep.{Keep}
-use Rattle.oc_linking.specs.FirstFault.{Stage, first_fault}
-use Rattle.oc_linking.specs.Rules.{Rules}
-use Rattle.oc_neutral.specs.Alignments.{output_align, common_align}
-use Rattle.oc_neutral.specs.Dialects.{Dialect, IsDialect}
-use Rattle.oc_elf.specs.declared.class.ElfClass.{ElfClass}
-use Rattle.oc_elf.specs.declared.class.ElfClass.TheVariants.{Class32, Class64, Big32, Big64}
-use Rattle.oc_elf.specs.Classes.{word_of, format_of}
-use Rattle.oc_elf.specs.Frames.{FileFrame, framed}
-use Rattle.oc_elf.specs.Headers.{header_stages}
-use Rattle.oc_elf.specs.CarriedSections.{sections_of}
-use Rattle.oc_elf.specs.SectionRules.{section_stage}
-use Rattle.oc_elf.specs.CarriedSymbols.{symbols_of}
-use Rattle.oc_elf.specs.SymbolRules.{symbol_stage}
-use Rattle.oc_elf.specs.RelocRules.{reloc_stages}
-use Rattle.oc_elf.specs.Fields.{field_at}
+use Rattle.oc_linking.specs.{declared.terms.Keep.{Keep}, FirstFault.{Stage, first_fault}, Rules.{Rules}}
+use Rattle.oc_neutral.specs.{Alignments.{output_align, common_align}, Dialects.{Dialect, IsDialect}}
+use Rattle.oc_elf.specs.{declared.class.ElfClass.{ElfClass}, declared.class.ElfClass.TheVariants.{Class32, Class64, Big32, Big64}, Classes.{word_of, format_of}}
+use Rattle.oc_elf.specs.{Frames.{FileFrame, framed}, Headers.{header_stages}, CarriedSections.{sections_of}, SectionRules.{section_stage}}
+use Rattle.oc_elf.specs.{CarriedSymbols.{symbols_of}, SymbolRules.{symbol_stage}, RelocRules.{reloc_stages}, Fields.{field_at}}
 
 -- the stages of reading after the file header, in their order
 abbrev pub rest_stages : FileFrame → Keep → List Stage

@@ -1,18 +1,11 @@
 -- What the entries of a symbol table say by themselves (gABI, "Symbol Table").
-use Rattle.std.specs.Prelude.{ℕ, ◌%◌, Bool, not, ◌&&◌, ◌||◌, nat_eq, nat_lt, if◌then◌else◌, List, [], Option}
-use Rattle.std.specs.Option.{unwrap_or}
-use Rattle.oc_linking.specs.declared.terms.Mark.{Mark}
-use Rattle.oc_linking.specs.declared.terms.Mark.TheVariants.{NoType, Object, Function}
-use Rattle.oc_linking.specs.declared.terms.Visibility.{Visibility}
+use Rattle.std.specs.{Prelude.{ℕ, ◌%◌, Bool, not, ◌&&◌, ◌||◌, nat_eq, nat_lt, if◌then◌else◌, List, [], Option}, Option.{unwrap_or}}
+use Rattle.oc_linking.specs.{declared.terms.Mark.{Mark}, declared.terms.Mark.TheVariants.{NoType, Object, Function}, declared.terms.Visibility.{Visibility}}
 use Rattle.oc_linking.specs.declared.terms.Visibility.TheVariants.{Default, Internal, Hidden, Protected}
 use Rattle.oc_elf.specs.declared.constants.TheConstants.{SHN_LORESERVE}
 use Rattle.oc_elf.specs.declared.constants.TheConstants.{SHN_UNDEF, STB_LOCAL, STT_OBJECT, STT_FUNC, STT_SECTION, STT_COMMON}
-use Rattle.oc_elf.specs.declared.constants.TheConstants.{STV_DEFAULT, STV_INTERNAL, STV_HIDDEN}
-use Rattle.oc_elf.specs.declared.sym.Sym.{Sym}
-use Rattle.oc_elf.specs.Sym.{bind_of, type_of}
-use Rattle.oc_elf.specs.Names.{name_in}
-use Rattle.oc_elf.specs.Frames.{FileFrame, header_at}
-use Rattle.oc_elf.specs.Tables.{symtab_of}
+use Rattle.oc_elf.specs.{declared.constants.TheConstants.{STV_DEFAULT, STV_INTERNAL, STV_HIDDEN}, declared.sym.Sym.{Sym}, Sym.{bind_of, type_of}}
+use Rattle.oc_elf.specs.{Names.{name_in}, Frames.{FileFrame, header_at}, Tables.{symtab_of}}
 
 -- the name of a symbol, if it is present
 unfoldable pub name_at : FileFrame → Sym → Option (List ℕ)

@@ -1,25 +1,14 @@
 -- Relocated fields (gABI, "Relocation"; i386 and x86-64 psABI, "Relocation Types"; our profile).
 use Rattle.std.specs.Prelude.{ℕ, ℤ, Bool, not, ◌&&◌, ◌||◌, nat_eq, nat_lt, if◌then◌else◌, List, slice_get, Option, Some, None}
 use Rattle.std.specs.Option.{option_map, option_map_or, option_and_then}
-use Rattle.oc_linking.specs.declared.terms.Width.TheVariants.{Eight}
-use Rattle.oc_linking.specs.Fits.{bytes_of}
-use Rattle.oc_linking.specs.Numbers.{first_upto}
+use Rattle.oc_linking.specs.{declared.terms.Width.TheVariants.{Eight}, Fits.{bytes_of}, Numbers.{first_upto}, Rules.{Field}, Targets.{Target, symbol_target}}
 use Rattle.oc_linking.specs.Parts as parts
-use Rattle.oc_linking.specs.Rules.{Field}
-use Rattle.oc_linking.specs.Targets.{Target, symbol_target}
 use Rattle.oc_algebra.specs.Fields.{extended}
-use Rattle.oc_neutral.specs.Rows.{Row}
-use Rattle.oc_neutral.specs.RelocTables.{row_of}
+use Rattle.oc_neutral.specs.{Rows.{Row}, RelocTables.{row_of}}
 use Rattle.oc_shows.specs.RowFields.{number_in, place_target, row_field}
-use Rattle.oc_base.specs.declared.format.Word.{Word}
-use Rattle.oc_base.specs.declared.format.Word.TheVariants.{W32, W64}
-use Rattle.oc_elf.specs.declared.constants.TheConstants.{R_NONE}
-use Rattle.oc_elf.specs.declared.rel.Rel.{Rel}
-use Rattle.oc_elf.specs.Classes.{word_of, format_of}
-use Rattle.oc_elf.specs.Frames.{FileFrame}
-use Rattle.oc_elf.specs.Tables.{symbol_count, entry_of, reloc_count, reloc_of}
-use Rattle.oc_elf.specs.Entries.{is_section_symbol}
-use Rattle.oc_elf.specs.CarriedSections.{sections_of}
+use Rattle.oc_base.specs.{declared.format.Word.{Word}, declared.format.Word.TheVariants.{W32, W64}}
+use Rattle.oc_elf.specs.{declared.constants.TheConstants.{R_NONE}, declared.rel.Rel.{Rel}, Classes.{word_of, format_of}, Frames.{FileFrame}}
+use Rattle.oc_elf.specs.{Tables.{symbol_count, entry_of, reloc_count, reloc_of}, Entries.{is_section_symbol}, CarriedSections.{sections_of}}
 use Rattle.oc_elf.specs.CarriedSymbols.{symbol_of, home_of}
 
 -- an entry that has no effect

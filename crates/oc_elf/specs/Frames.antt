@@ -1,14 +1,8 @@
 -- A file with its section headers (gABI, "ELF Header" and "Sections"; our profile).
-use Rattle.std.specs.Prelude.{ℕ, ◌+◌, ◌*◌, nat_eq, if◌then◌else◌, List, map, slice_index_or}
-use Rattle.std.specs.List.{range_with_len}
+use Rattle.std.specs.{Prelude.{ℕ, ◌+◌, ◌*◌, nat_eq, if◌then◌else◌, List, map, slice_index_or}, List.{range_with_len}}
 use Rattle.oc_base.specs.declared.format.Word.{Word}
-use Rattle.oc_elf.specs.declared.class.ElfClass.{ElfClass}
-use Rattle.oc_elf.specs.declared.ehdr.Ehdr.{Ehdr}
-use Rattle.oc_elf.specs.declared.shdr.Shdr.{Shdr}
-use Rattle.oc_elf.specs.declared.constants.TheConstants.{SHN_XINDEX}
-use Rattle.oc_elf.specs.Classes.{is_big, word_of}
-use Rattle.oc_elf.specs.Ehdr.{ehdr_in}
-use Rattle.oc_elf.specs.Shdr.{shdr_in, shdr_size, null_shdr}
+use Rattle.oc_elf.specs.{declared.class.ElfClass.{ElfClass}, declared.ehdr.Ehdr.{Ehdr}, declared.shdr.Shdr.{Shdr}, declared.constants.TheConstants.{SHN_XINDEX}}
+use Rattle.oc_elf.specs.{Classes.{is_big, word_of}, Ehdr.{ehdr_in}, Shdr.{shdr_in, shdr_size, null_shdr}}
 
 -- header 0 as it is stored: where sections are many, it has the numbers for which the file header has no room
 abbrev pub zero_in : Word → List ℕ → Shdr

@@ -1,17 +1,11 @@
 -- Groups of sections (gABI, "Section Groups"; our profile).
-use Rattle.std.specs.Prelude.{ℕ, ◌+◌, ◌-◌, ◌*◌, ◌/◌, Bool, ◌&&◌, nat_eq, bytes_eq, if◌then◌else◌, List, [], length, map, Option, None}
-use Rattle.std.specs.List.{range_with_len}
+use Rattle.std.specs.{Prelude.{ℕ, ◌+◌, ◌-◌, ◌*◌, ◌/◌, Bool, ◌&&◌, nat_eq, bytes_eq, if◌then◌else◌, List, [], length, map, Option, None}, List.{range_with_len}}
 use Rattle.std.specs.Option.{option_map, option_and_then}
 use Rattle.oc_base.specs.Numbers.{number_at}
 use Rattle.oc_strings.specs.Repeats.{NameList}
 use Rattle.oc_shelf.specs.Reading.Firsts.{any_upto, first_place}
-use Rattle.oc_elf.specs.declared.constants.TheConstants.{GRP_COMDAT, GRP_ENTRY_SIZE, SHT_GROUP}
-use Rattle.oc_elf.specs.declared.shdr.Shdr.{Shdr}
-use Rattle.oc_elf.specs.declared.sym.Sym.{Sym}
-use Rattle.oc_elf.specs.Frames.{FileFrame, header_at}
-use Rattle.oc_elf.specs.Sections.{is_type, section_name}
-use Rattle.oc_elf.specs.Tables.{entry_of}
-use Rattle.oc_elf.specs.Entries.{name_at, is_sectional, is_section_symbol}
+use Rattle.oc_elf.specs.{declared.constants.TheConstants.{GRP_COMDAT, GRP_ENTRY_SIZE, SHT_GROUP}, declared.shdr.Shdr.{Shdr}, declared.sym.Sym.{Sym}}
+use Rattle.oc_elf.specs.{Frames.{FileFrame, header_at}, Sections.{is_type, section_name}, Tables.{entry_of}, Entries.{name_at, is_sectional, is_section_symbol}}
 
 -- word i of the contents of a group
 abbrev pub group_word : FileFrame → Shdr → ℕ → ℕ

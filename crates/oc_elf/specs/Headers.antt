@@ -1,19 +1,11 @@
 -- Conditions on the file header and on the table of section headers (gABI, "ELF Header"; our profile).
 use Rattle.std.specs.Prelude.{ℕ, ◌+◌, ◌*◌, Bool, not, ◌&&◌, ◌||◌, nat_eq, nat_lt, if◌then◌else◌, List, [], ◌∷◌, length}
-use Rattle.oc_base.specs.declared.code.Code.{Code}
-use Rattle.oc_base.specs.declared.code.Code.TheVariants.{Short, BadHeader, NotRelocatable, ExtendedNumbering, BadTable}
-use Rattle.oc_base.specs.declared.fault.Fault.{Fault}
-use Rattle.oc_base.specs.declared.fault.Phase.TheVariants.{Header}
+use Rattle.oc_base.specs.{declared.code.Code.{Code}, declared.code.Code.TheVariants.{Short, BadHeader, NotRelocatable, ExtendedNumbering, BadTable}}
+use Rattle.oc_base.specs.{declared.fault.Fault.{Fault}, declared.fault.Phase.TheVariants.{Header}, declared.format.Word.{Word}}
 use Rattle.oc_linking.specs.FirstFault.{Condition, Stage}
-use Rattle.oc_base.specs.declared.format.Word.{Word}
-use Rattle.oc_elf.specs.declared.class.ElfClass.{ElfClass}
-use Rattle.oc_elf.specs.declared.constants.TheConstants.{ELFDATA2LSB, EV_CURRENT, ET_REL, SHN_XINDEX, SHT_STRTAB}
-use Rattle.oc_elf.specs.declared.ehdr.Ehdr.{Ehdr}
-use Rattle.oc_elf.specs.declared.shdr.Shdr.{Shdr}
-use Rattle.oc_elf.specs.Classes.{machine_of, is_big, word_of}
-use Rattle.oc_elf.specs.Ehdr.{ehdr_in, ehdr_size}
-use Rattle.oc_elf.specs.Shdr.{shdr_size}
-use Rattle.oc_elf.specs.Frames.{framed, zero_in, big_count}
+use Rattle.oc_elf.specs.{declared.class.ElfClass.{ElfClass}, declared.constants.TheConstants.{ELFDATA2LSB, EV_CURRENT, ET_REL, SHN_XINDEX, SHT_STRTAB}}
+use Rattle.oc_elf.specs.{declared.ehdr.Ehdr.{Ehdr}, declared.shdr.Shdr.{Shdr}, Classes.{machine_of, is_big, word_of}, Ehdr.{ehdr_in, ehdr_size}}
+use Rattle.oc_elf.specs.{Shdr.{shdr_size}, Frames.{framed, zero_in, big_count}}
 
 -- a fault of the file header, at a place
 abbrev pub header_fault : Code → ℕ → Fault

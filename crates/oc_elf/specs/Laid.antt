@@ -1,13 +1,7 @@
 -- What is known of a file with its section headers (our profile).
 use Rattle.std.specs.Prelude.{◌≡◌, ℕ, true, ◌+◌, ◌*◌, ◌<◌, ◌≤◌, ◌^◌, length, Option}
-use Rattle.oc_elf.specs.declared.class.ElfClass.{ElfClass}
-use Rattle.oc_elf.specs.declared.ehdr.Ehdr.{Ehdr}
-use Rattle.oc_elf.specs.declared.shdr.Shdr.{Shdr}
-use Rattle.oc_elf.specs.Classes.{is_big, word_of}
-use Rattle.oc_elf.specs.Ehdr.{ehdr_in, ehdr_size}
-use Rattle.oc_elf.specs.Shdr.{shdr_size}
-use Rattle.oc_elf.specs.Sections.{shndx_number}
-use Rattle.oc_elf.specs.Frames.{FileFrame, framed, count_by}
+use Rattle.oc_elf.specs.{declared.class.ElfClass.{ElfClass}, declared.ehdr.Ehdr.{Ehdr}, declared.shdr.Shdr.{Shdr}, Classes.{is_big, word_of}}
+use Rattle.oc_elf.specs.{Ehdr.{ehdr_in, ehdr_size}, Shdr.{shdr_size}, Sections.{shndx_number}, Frames.{FileFrame, framed, count_by}}
 
 -- the headers begin where the file header says, and end in the file
 pub record IsLaid (f : FileFrame) (start : ℕ) (shndx : Option ℕ) : Type 0 where

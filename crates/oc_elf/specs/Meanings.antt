@@ -1,11 +1,7 @@
 -- What the types of relocations mean, by the tables of all formats (i386 and x86-64 psABI, "Relocation Types").
-use Rattle.std.specs.Prelude.{ℕ, Option}
-use Rattle.std.specs.Option.{option_map}
-use Rattle.oc_neutral.specs.Rows.{Row, less_of}
-use Rattle.oc_neutral.specs.RelocTables.{row_of}
-use Rattle.oc_elf.specs.declared.class.ElfClass.{ElfClass}
-use Rattle.oc_elf.specs.declared.meaning.Meaning.{Meaning}
-use Rattle.oc_elf.specs.Classes.{format_of}
+use Rattle.std.specs.{Prelude.{ℕ, Option}, Option.{option_map}}
+use Rattle.oc_neutral.specs.{Rows.{Row, less_of}, RelocTables.{row_of}}
+use Rattle.oc_elf.specs.{declared.class.ElfClass.{ElfClass}, declared.meaning.Meaning.{Meaning}, Classes.{format_of}}
 
 -- the meaning of a row; no row of ELF takes a section
 abbrev pub meant_by : Row → Meaning

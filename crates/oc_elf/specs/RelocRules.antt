@@ -1,27 +1,15 @@
 -- Conditions on relocation entries (i386 and x86-64 psABI, "Relocation Types"; our profile).
 use Rattle.std.specs.Prelude.{ℕ, ◌+◌, Bool, false, not, ◌&&◌, ◌||◌, nat_eq, nat_lt, nat_le, is_some, is_none, if◌then◌else◌, List, [], ◌∷◌, ◌++◌, length, map, Option, Some, None}
-use Rattle.std.specs.List.{range_with_len}
-use Rattle.std.specs.Option.{option_map_or}
-use Rattle.oc_base.specs.declared.code.Code.{Code}
-use Rattle.oc_base.specs.declared.code.Code.TheVariants.{RelocKind, BadOffset, BadTarget, TargetKind, Overlap}
-use Rattle.oc_base.specs.declared.fault.Fault.{Fault}
-use Rattle.oc_base.specs.declared.fault.Phase.TheVariants.{Relocation}
-use Rattle.oc_linking.specs.declared.terms.Keep.{Keep}
-use Rattle.oc_linking.specs.declared.terms.Base.TheVariants.{Address}
-use Rattle.oc_linking.specs.Keeping.{keeps}
+use Rattle.std.specs.{List.{range_with_len}, Option.{option_map_or}}
+use Rattle.oc_base.specs.{declared.code.Code.{Code}, declared.code.Code.TheVariants.{RelocKind, BadOffset, BadTarget, TargetKind, Overlap}}
+use Rattle.oc_base.specs.{declared.fault.Fault.{Fault}, declared.fault.Phase.TheVariants.{Relocation}}
+use Rattle.oc_linking.specs.{declared.terms.Keep.{Keep}, declared.terms.Base.TheVariants.{Address}, Keeping.{keeps}}
 use Rattle.oc_linking.specs.FirstFault.{Condition, Stage, first_broken}
-use Rattle.oc_neutral.specs.declared.elf.TheConstants.{SHT_NOBITS}
-use Rattle.oc_neutral.specs.Rows.{Row, same_base}
-use Rattle.oc_shelf.specs.Reading.Firsts.{any_upto}
-use Rattle.oc_shelf.specs.Reading.Spans.{meets}
-use Rattle.oc_elf.specs.declared.shdr.Shdr.{Shdr}
-use Rattle.oc_elf.specs.declared.rel.Rel.{Rel}
-use Rattle.oc_elf.specs.Frames.{FileFrame, header_at}
-use Rattle.oc_elf.specs.Sections.{is_type, is_carried, kind_of}
-use Rattle.oc_elf.specs.Tables.{symbol_count, entry_of, reloc_count, reloc_place, reloc_of}
-use Rattle.oc_elf.specs.Entries.{is_local_entry, is_section_symbol}
-use Rattle.oc_elf.specs.CarriedSymbols.{symbol_of, home_of}
-use Rattle.oc_elf.specs.Fields.{is_idle, row_for, width_of}
+use Rattle.oc_neutral.specs.{declared.elf.TheConstants.{SHT_NOBITS}, Rows.{Row, same_base}}
+use Rattle.oc_shelf.specs.{Reading.Firsts.{any_upto}, Reading.Spans.{meets}}
+use Rattle.oc_elf.specs.{declared.shdr.Shdr.{Shdr}, declared.rel.Rel.{Rel}, Frames.{FileFrame, header_at}, Sections.{is_type, is_carried, kind_of}}
+use Rattle.oc_elf.specs.{Tables.{symbol_count, entry_of, reloc_count, reloc_place, reloc_of}, Entries.{is_local_entry, is_section_symbol}}
+use Rattle.oc_elf.specs.{CarriedSymbols.{symbol_of, home_of}, Fields.{is_idle, row_for, width_of}}
 
 -- a fault of an entry of the relocation table of section i
 abbrev pub reloc_fault : Code → ℕ → ℕ → Fault

@@ -1,31 +1,18 @@
 -- Conditions on section headers (gABI, "Sections"; our profile).
 use Rattle.std.specs.Prelude.{ℕ, ◌+◌, ◌/◌, ◌%◌, ◌^◌, Bool, false, not, ◌&&◌, ◌||◌, nat_eq, nat_lt, nat_le, is_some, if◌then◌else◌, List, [], ◌∷◌, ◌++◌, length}
-use Rattle.std.specs.List.{list_any}
+use Rattle.std.specs.{List.{list_any}, Option.{option_map_or}}
 use Rattle.oc_base.specs.declared.code.Code.{Code}
 use Rattle.oc_base.specs.declared.code.Code.TheVariants.{Short, BadName, Group, ExtendedNumbering, SectionKind, BadTable, BadAlign, AlignRange, LimitSection, LimitSum, LimitBytes}
-use Rattle.oc_base.specs.declared.fault.Fault.{Fault}
-use Rattle.oc_base.specs.declared.fault.Phase.TheVariants.{Section as SectionPhase}
-use Rattle.oc_linking.specs.Numbers.{first_from}
-use Rattle.oc_linking.specs.FirstFault.{Condition, Stage}
-use Rattle.oc_neutral.specs.declared.elf.TheConstants.{SHT_NOBITS, SHF_ALLOC, ALIGN_BITS}
-use Rattle.oc_neutral.specs.KindRules.{has}
-use Rattle.oc_neutral.specs.Building.{is_zero}
-use Rattle.oc_neutral.specs.Elf.Kinds.{carried_types}
-use Rattle.oc_shelf.specs.Reading.Firsts.{any_upto}
-use Rattle.oc_shelf.specs.Reading.Sums.{sum_upto}
-use Rattle.oc_elf.specs.declared.constants.TheConstants.{SHT_NULL, SHT_SYMTAB, SHT_STRTAB, SHT_RELA, SHT_REL, SHT_GROUP, SHT_SYMTAB_SHNDX, SHNDX_SIZE, SHF_LINK_ORDER, SHF_TLS, SHF_COMPRESSED}
-use Rattle.oc_elf.specs.declared.constants.TheConstants.{GRP_COMDAT, GRP_ENTRY_SIZE, MOST_SIZE, MOST_SIZES}
+use Rattle.oc_base.specs.{declared.fault.Fault.{Fault}, declared.fault.Phase.TheVariants.{Section as SectionPhase}}
 use Rattle.oc_base.specs.declared.limits.TheConstants.{MOST_CONTENTS}
-use Rattle.oc_elf.specs.declared.shdr.Shdr.{Shdr}
-use Rattle.std.specs.Option.{option_map_or}
-use Rattle.oc_elf.specs.Classes.{is_big, reloc_type, foreign_type, word_of}
-use Rattle.oc_elf.specs.Sym.{sym_size}
-use Rattle.oc_elf.specs.Rel.{rel_size}
-use Rattle.oc_elf.specs.Names.{name_in}
-use Rattle.oc_elf.specs.Frames.{FileFrame, header_at, header_place}
-use Rattle.oc_elf.specs.Sections.{is_type, is_carried, kind_of, shndx_number, table_among, symtab_among}
-use Rattle.oc_elf.specs.Tables.{entry_count}
-use Rattle.oc_elf.specs.Groups.{group_word, member_count, member_at, has_member, owner_among}
+use Rattle.oc_linking.specs.{Numbers.{first_from}, FirstFault.{Condition, Stage}}
+use Rattle.oc_neutral.specs.{declared.elf.TheConstants.{SHT_NOBITS, SHF_ALLOC, ALIGN_BITS}, KindRules.{has}, Building.{is_zero}, Elf.Kinds.{carried_types}}
+use Rattle.oc_shelf.specs.{Reading.Firsts.{any_upto}, Reading.Sums.{sum_upto}}
+use Rattle.oc_elf.specs.declared.constants.TheConstants.{SHT_NULL, SHT_SYMTAB, SHT_STRTAB, SHT_RELA, SHT_REL, SHT_GROUP, SHT_SYMTAB_SHNDX, SHNDX_SIZE, SHF_LINK_ORDER, SHF_TLS, SHF_COMPRESSED}
+use Rattle.oc_elf.specs.{declared.constants.TheConstants.{GRP_COMDAT, GRP_ENTRY_SIZE, MOST_SIZE, MOST_SIZES}, declared.shdr.Shdr.{Shdr}}
+use Rattle.oc_elf.specs.{Classes.{is_big, reloc_type, foreign_type, word_of}, Sym.{sym_size}, Rel.{rel_size}, Names.{name_in}}
+use Rattle.oc_elf.specs.{Frames.{FileFrame, header_at, header_place}, Sections.{is_type, is_carried, kind_of, shndx_number, table_among, symtab_among}}
+use Rattle.oc_elf.specs.{Tables.{entry_count}, Groups.{group_word, member_count, member_at, has_member, owner_among}}
 
 -- a fault of section header k, at a place or with a number
 abbrev pub section_fault : Code → ℕ → ℕ → Fault

@@ -1,17 +1,10 @@
 -- Sections and the tables that go with them (gABI, "Sections"; our profile).
-use Rattle.std.specs.Prelude.{ℕ, Bool, nat_eq, if◌then◌else◌, List, [], length, take, drop, replicate, Option, Some, None}
-use Rattle.std.specs.Option.{unwrap_or, option_map_or}
+use Rattle.std.specs.{Prelude.{ℕ, Bool, nat_eq, if◌then◌else◌, List, [], length, take, drop, replicate, Option, Some, None}, Option.{unwrap_or, option_map_or}}
 use Rattle.oc_linking.specs.declared.terms.Kind.{Kind}
-use Rattle.oc_neutral.specs.declared.elf.TheConstants.{SHT_NOBITS}
-use Rattle.oc_neutral.specs.Elf.Kinds.{is_carried_type, elf_kind}
+use Rattle.oc_neutral.specs.{declared.elf.TheConstants.{SHT_NOBITS}, Elf.Kinds.{is_carried_type, elf_kind}}
 use Rattle.oc_shelf.specs.Reading.Firsts.{first_place, first_keyed}
-use Rattle.oc_elf.specs.declared.constants.TheConstants.{SHT_SYMTAB, SHT_SYMTAB_SHNDX}
-use Rattle.oc_elf.specs.declared.shdr.Shdr.{Shdr}
-use Rattle.oc_elf.specs.Classes.{is_big, reloc_type, word_of}
-use Rattle.oc_elf.specs.declared.class.ElfClass.{ElfClass}
-use Rattle.oc_elf.specs.Shdr.{null_shdr}
-use Rattle.oc_elf.specs.Names.{name_in}
-use Rattle.oc_elf.specs.Frames.{FileFrame, header_at}
+use Rattle.oc_elf.specs.{declared.constants.TheConstants.{SHT_SYMTAB, SHT_SYMTAB_SHNDX}, declared.shdr.Shdr.{Shdr}, Classes.{is_big, reloc_type, word_of}}
+use Rattle.oc_elf.specs.{declared.class.ElfClass.{ElfClass}, Shdr.{null_shdr}, Names.{name_in}, Frames.{FileFrame, header_at}}
 
 -- the section is of that type
 abbrev pub is_type : ℕ → Shdr → Bool

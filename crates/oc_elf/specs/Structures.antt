@@ -1,16 +1,9 @@
 -- The structures of all classes as bytes (gABI, "ELF Header", "Section Header", "Symbol Table" and "Relocation").
 use Rattle.std.specs.Prelude.{ℕ, ◌+◌, ◌*◌, ◌%◌, ◌^◌, Bool, not, ◌&&◌, nat_lt, if◌then◌else◌, List, [], ◌∷◌, ◌++◌}
-use Rattle.oc_base.specs.Numbers.{bytes_of_number}
+use Rattle.oc_base.specs.{Numbers.{bytes_of_number}, declared.format.Word.{Word}, declared.format.Word.TheVariants.{W32, W64}}
 use Rattle.oc_shelf.specs.Writing.Packed.{packed}
-use Rattle.oc_elf.specs.declared.class.ElfClass.{ElfClass}
-use Rattle.oc_base.specs.declared.format.Word.{Word}
-use Rattle.oc_base.specs.declared.format.Word.TheVariants.{W32, W64}
-use Rattle.oc_elf.specs.declared.constants.TheConstants.{SHN_LORESERVE, SHN_XINDEX, SHNDX_SIZE}
-use Rattle.oc_elf.specs.declared.ehdr.Ehdr.{Ehdr}
-use Rattle.oc_elf.specs.declared.shdr.Shdr.{Shdr}
-use Rattle.oc_elf.specs.declared.sym.Sym.{Sym}
-use Rattle.oc_elf.specs.declared.rel.Rel.{Rel}
-use Rattle.oc_elf.specs.Classes.{is_big, word_of}
+use Rattle.oc_elf.specs.{declared.class.ElfClass.{ElfClass}, declared.constants.TheConstants.{SHN_LORESERVE, SHN_XINDEX, SHNDX_SIZE}, declared.ehdr.Ehdr.{Ehdr}}
+use Rattle.oc_elf.specs.{declared.shdr.Shdr.{Shdr}, declared.sym.Sym.{Sym}, declared.rel.Rel.{Rel}, Classes.{is_big, word_of}}
 use Rattle.oc_elf.specs.declared.constants.TheConstants.{ELFCLASS32, ELFCLASS64, FIRST_EXTENDED}
 
 -- how many bytes an address and an offset have

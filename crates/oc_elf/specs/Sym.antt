@@ -1,8 +1,6 @@
 -- Symbol table entries (gABI, "Symbol Table").
 use Rattle.std.specs.Prelude.{ℕ, nat_lt, if◌then◌else◌, ◌+◌, ◌/◌, ◌%◌, List}
-use Rattle.oc_base.specs.declared.format.Word.{Word}
-use Rattle.oc_base.specs.declared.format.Word.TheVariants.{W32, W64}
-use Rattle.oc_base.specs.Numbers.{number_at}
+use Rattle.oc_base.specs.{declared.format.Word.{Word}, declared.format.Word.TheVariants.{W32, W64}, Numbers.{number_at}}
 use Rattle.oc_neutral.specs.declared.elf.TheConstants as elf
 use Rattle.oc_elf.specs.declared.sym.Sym.{Sym}
 

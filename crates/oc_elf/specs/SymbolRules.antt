@@ -1,25 +1,17 @@
 -- Conditions on symbols (gABI, "Symbol Table"; our profile).
 use Rattle.std.specs.Prelude.{ℕ, Bool, true, false, not, ◌&&◌, ◌||◌, nat_eq, nat_lt, is_some, bytes_eq, if◌then◌else◌, List, [], ◌∷◌, ◌++◌, length, map, Option, Some, None}
-use Rattle.std.specs.List.{range_with_len}
-use Rattle.std.specs.Option.{option_map_or}
+use Rattle.std.specs.{List.{range_with_len}, Option.{option_map_or}}
 use Rattle.oc_base.specs.declared.code.Code.{Code}
 use Rattle.oc_base.specs.declared.code.Code.TheVariants.{BadName, BadSymbol, SymbolKind, SymbolPastEnd, BadCommon, DuplicateName, Group}
-use Rattle.oc_base.specs.declared.fault.Fault.{Fault}
-use Rattle.oc_base.specs.declared.fault.Phase.TheVariants.{Symbol as SymbolPhase}
+use Rattle.oc_base.specs.{declared.fault.Fault.{Fault}, declared.fault.Phase.TheVariants.{Symbol as SymbolPhase}}
 use Rattle.oc_linking.specs.FirstFault.{Condition, Stage}
-use Rattle.oc_strings.specs.declared.repeats.Repeat.{Repeat}
-use Rattle.oc_strings.specs.Repeats.{NameList, repeat_at}
+use Rattle.oc_strings.specs.{declared.repeats.Repeat.{Repeat}, Repeats.{NameList, repeat_at}}
 use Rattle.oc_shelf.specs.Reading.Firsts.{any_upto}
 use Rattle.oc_neutral.specs.declared.elf.TheConstants.{ALIGN_BITS}
 use Rattle.oc_elf.specs.declared.constants.TheConstants.{SHN_LORESERVE}
 use Rattle.oc_elf.specs.declared.constants.TheConstants.{EXTENDED_ZERO, SHN_UNDEF, SHN_ABS, SHN_COMMON, STB_WEAK, STT_FILE, STT_COMMON}
-use Rattle.oc_elf.specs.declared.sym.Sym.{Sym}
-use Rattle.oc_elf.specs.Sym.{bind_of, type_of}
-use Rattle.oc_elf.specs.Frames.{FileFrame, header_at}
-use Rattle.oc_elf.specs.Sections.{is_carried}
-use Rattle.oc_elf.specs.SectionRules.{is_power}
-use Rattle.oc_elf.specs.Tables.{symtab_of, symbol_count, symbol_place, entry_of}
-use Rattle.oc_elf.specs.Entries.{name_at, name_of, is_local_entry, is_sectional, is_section_symbol}
+use Rattle.oc_elf.specs.{declared.sym.Sym.{Sym}, Sym.{bind_of, type_of}, Frames.{FileFrame, header_at}, Sections.{is_carried}, SectionRules.{is_power}}
+use Rattle.oc_elf.specs.{Tables.{symtab_of, symbol_count, symbol_place, entry_of}, Entries.{name_at, name_of, is_local_entry, is_sectional, is_section_symbol}}
 use Rattle.oc_elf.specs.Groups.{is_comdat, comdat_key, comdat_keys}
 
 -- a fault of symbol k

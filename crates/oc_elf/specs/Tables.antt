@@ -1,14 +1,7 @@
 -- The tables of a file (gABI, "Symbol Table" and "Relocation"; our profile).
-use Rattle.std.specs.Prelude.{ℕ, ◌+◌, ◌*◌, ◌/◌, ◌&&◌, nat_eq, nat_lt, if◌then◌else◌, length}
-use Rattle.std.specs.Option.{unwrap_or}
-use Rattle.oc_elf.specs.declared.shdr.Shdr.{Shdr}
-use Rattle.oc_elf.specs.declared.sym.Sym.{Sym}
-use Rattle.oc_elf.specs.declared.rel.Rel.{Rel}
-use Rattle.oc_elf.specs.Sym.{sym_in, sym_size}
-use Rattle.oc_elf.specs.Rel.{rel_in, rel_size}
-use Rattle.oc_elf.specs.Frames.{FileFrame, header_at}
-use Rattle.oc_elf.specs.Sections.{is_type, shndx_by, symtab_among, table_among}
-use Rattle.oc_elf.specs.Classes.{is_big, word_of}
+use Rattle.std.specs.{Prelude.{ℕ, ◌+◌, ◌*◌, ◌/◌, ◌&&◌, nat_eq, nat_lt, if◌then◌else◌, length}, Option.{unwrap_or}}
+use Rattle.oc_elf.specs.{declared.shdr.Shdr.{Shdr}, declared.sym.Sym.{Sym}, declared.rel.Rel.{Rel}, Sym.{sym_in, sym_size}, Rel.{rel_in, rel_size}}
+use Rattle.oc_elf.specs.{Frames.{FileFrame, header_at}, Sections.{is_type, shndx_by, symtab_among, table_among}, Classes.{is_big, word_of}}
 use Rattle.oc_elf.specs.declared.constants.TheConstants.{SHT_SYMTAB_SHNDX, SIGNED_XINDEX, NO_INDEX, EXTENDED_ZERO, SHNDX_SIZE}
 use Rattle.oc_base.specs.Numbers.{number_at}
 

@@ -1,41 +1,24 @@
 -- A canonical file has fewer than 2^32 bytes.
 use Rattle.std.proofs.Common.{◌≡◌, ℕ, suc, ◌+◌, ◌*◌, ◌^◌, ◌<◌, ◌≤◌, Bool, true, false, cond, eqb, List, [], ◌∷◌, ◌++◌, length, map, get_or, Some, None, refl, ◌∙◌, ap, arith, length-append}
-use Rattle.std.specs.Prelude.{filter_map, not}
-use Rattle.std.specs.List.{count_by, sum_by, enumerate_from, filter, cons_option, AllByRecursion}
-use Rattle.std.proofs.lemmas.List.{length-map}
-use Rattle.std.proofs.lemmas.List.FromFn.{length-enumerate_from}
-use Rattle.std.proofs.lemmas.List.Sums.{sum_by-cons, sum_by-append, length-filter, count_by-le-length}
+use Rattle.std.specs.{Prelude.{filter_map, not}, List.{count_by, sum_by, enumerate_from, filter, cons_option, AllByRecursion}}
+use Rattle.std.proofs.lemmas.{List.{length-map}, List.FromFn.{length-enumerate_from}, List.Sums.{sum_by-cons, sum_by-append, length-filter, count_by-le-length}}
 use Rattle.oc_chains.specs.declared.field.Field as chains
 use Rattle.oc_chains.specs.Lists.{list_of}
 use Rattle.oc_linking.specs.Parts.{is_local}
-use Rattle.oc_neutral.specs.declared.group.Group.{Group}
-use Rattle.oc_neutral.specs.declared.reloc.Reloc.{Reloc}
-use Rattle.oc_neutral.specs.declared.section.Section.{Section}
-use Rattle.oc_neutral.specs.declared.symbol.Symbol.{Symbol}
-use Rattle.oc_neutral.specs.Building.{stored_size, stored_sum}
-use Rattle.oc_neutral.specs.Invariants.{HasItsBytes}
-use Rattle.oc_neutral.specs.Objects.{Object}
-use Rattle.oc_neutral.specs.Elf.Family.{elf_symbol_count, signature_count}
+use Rattle.oc_neutral.specs.{declared.group.Group.{Group}, declared.reloc.Reloc.{Reloc}, declared.section.Section.{Section}, declared.symbol.Symbol.{Symbol}}
+use Rattle.oc_neutral.specs.{Building.{stored_size, stored_sum}, Invariants.{HasItsBytes}, Objects.{Object}, Elf.Family.{elf_symbol_count, signature_count}}
+use Rattle.oc_neutral.specs.Families.{is_many}
 use Rattle.oc_shows.specs.SymbolLines.{needs_signature}
 use Rattle.oc_shelf.specs.Writing.Parts.{laid, behind}
-use Rattle.oc_elf.specs.declared.class.ElfClass.{ElfClass}
-use Rattle.oc_elf.specs.Classes.{format_of, word_of}
-use Rattle.oc_elf.specs.Ehdr.{ehdr_size}
-use Rattle.oc_elf.specs.Shdr.{shdr_size}
-use Rattle.oc_elf.specs.Sym.{sym_size}
-use Rattle.oc_elf.specs.Rel.{rel_size}
-use Rattle.oc_base.specs.declared.format.Word.{Word}
-use Rattle.oc_base.specs.declared.format.Word.TheVariants.{W32, W64}
+use Rattle.oc_elf.specs.{declared.class.ElfClass.{ElfClass}, Classes.{format_of, word_of}, Ehdr.{ehdr_size}, Shdr.{shdr_size}, Sym.{sym_size}, Rel.{rel_size}}
+use Rattle.oc_base.specs.{declared.format.Word.{Word}, declared.format.Word.TheVariants.{W32, W64}}
 use Rattle.oc_elf_file.specs.Heads.{Head, NullHead, RelocHead, SymtabHead, ShndxHead, StrtabHead, ShstrtabHead, placed_sections, group_head, section_head, reloc_head, group_heads, section_heads, reloc_heads, table_heads_by, table_heads, heads_of, head_size, numbered_heads, head_name, reloc_prefix}
-use Rattle.oc_neutral.specs.Families.{is_many}
 use Rattle.oc_elf_file.specs.Lines.{Line, NullLine, SectionLine, SignatureLine, LocalLine, OuterLine, lines_of, line_name, section_lines, signature_lines, lines_where, inner_lines, outer_lines}
 use Rattle.oc_elf_file.specs.Groups.{member_number, group_words}
 use Rattle.oc_elf_file.specs.Layout.{Part, FileHead, Body, HeadTable, parts_of, head_names, line_names, part_size, part_align, part_begin}
 use Rattle.oc_elf_file.specs.Canonical.{elf_file}
-use Rattle.oc_elf_file.proofs.CodedLaws.{IsForElf, few_sections}
-use Rattle.oc_elf_file.proofs.HeadCounts.{length-heads, counted_tables, most_tables, few_heads, few_reloc_heads}
-use Rattle.oc_elf_file.proofs.PartLaws.{length-elf_file}
-use Rattle.oc_elf_file.proofs.SizeLaws.{strings_size, end_low, gap_low, align_low, members_few}
+use Rattle.oc_elf_file.proofs.{CodedLaws.{IsForElf, few_sections}, HeadCounts.{length-heads, counted_tables, most_tables, few_heads, few_reloc_heads}}
+use Rattle.oc_elf_file.proofs.{PartLaws.{length-elf_file}, SizeLaws.{strings_size, end_low, gap_low, align_low, members_few}}
 use Rattle.oc_shelf.proofs.WritingLaws.SizeLemmas.{sum_enumerated, sum_filter, sum_more, sum_same, ended_size}
 use Rattle.oc_neutral.proofs.LeftObject.{sum_map}
 

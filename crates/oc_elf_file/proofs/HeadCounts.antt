@@ -1,23 +1,15 @@
 -- How many section headers there are: as many as are counted, and (where sections are few) fewer than gABI's reserved numbers.
 use Rattle.std.proofs.Common.{◌≡◌, ℕ, ◌+◌, ◌<◌, ◌≤◌, Bool, true, false, cond, eqb, List, [], ◌∷◌, ◌++◌, length, Some, None, refl, sym, ◌∙◌, ap, arith, length-append}
-use Rattle.std.specs.Prelude.{slice_get, filter_map, not}
-use Rattle.std.specs.List.{count_by, enumerate_from, range_with_len, list_any, cons_option}
-use Rattle.std.proofs.lemmas.Bool.{true≢false, or_left}
-use Rattle.std.proofs.lemmas.List.{length-map}
-use Rattle.std.proofs.lemmas.List.FromFn.{length-enumerate_from, length-range_with_len}
+use Rattle.std.specs.{Prelude.{slice_get, filter_map, not}, List.{count_by, enumerate_from, range_with_len, list_any, cons_option}}
+use Rattle.std.proofs.lemmas.{Bool.{true≢false, or_left}, List.{length-map}, List.FromFn.{length-enumerate_from, length-range_with_len}}
 use Rattle.std.proofs.lemmas.List.Sums.{sum_by-cons, count_by-le-length}
 use Rattle.oc_chains.specs.declared.field.Field as chains
 use Rattle.oc_chains.specs.Lists.{list_of}
-use Rattle.oc_neutral.specs.declared.reloc.Reloc.{Reloc}
-use Rattle.oc_neutral.specs.declared.section.Section.{Section}
-use Rattle.oc_neutral.specs.Families.{is_many}
-use Rattle.oc_neutral.specs.Objects.{Object, reloc_at}
+use Rattle.oc_neutral.specs.{declared.reloc.Reloc.{Reloc}, declared.section.Section.{Section}, Families.{is_many}, Objects.{Object, reloc_at}}
 use Rattle.oc_neutral.specs.Relocated.{is_relocated, stays}
-use Rattle.oc_elf.specs.declared.class.ElfClass.{ElfClass}
-use Rattle.oc_elf.specs.Classes.{format_of, is_big}
+use Rattle.oc_elf.specs.{declared.class.ElfClass.{ElfClass}, Classes.{format_of, is_big}}
 use Rattle.oc_elf_file.specs.Heads.{RelocHead, placed_sections, group_head, section_head, reloc_head, group_heads, section_heads, reloc_heads, table_heads_by, table_heads, heads_of}
-use Rattle.oc_elf_file.proofs.CodedLaws.{IsForElf, most_low, most_plain}
-use Rattle.oc_elf_file.proofs.RelocLaws.{meets}
+use Rattle.oc_elf_file.proofs.{CodedLaws.{IsForElf, most_low, most_plain}, RelocLaws.{meets}}
 use Rattle.oc_shows.proofs.FoundLaws.{found_in}
 
 pub most_tables : (b : Bool) → cond {A = ℕ} b 5 4 ≤ 5

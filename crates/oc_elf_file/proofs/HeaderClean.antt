@@ -1,34 +1,19 @@
 -- The header of a canonical file is well formed.
-use Rattle.oc_elf.specs.declared.shdr.Shdr.{Shdr}
+use Rattle.oc_elf.specs.{declared.shdr.Shdr.{Shdr}, declared.class.ElfClass.{ElfClass}, Classes.{is_big, machine_of, word_of}, Ehdr.{ehdr_size}}
+use Rattle.oc_elf.specs.{Shdr.{shdr_size}, Headers.{header_conditions, names_conditions}, Structures.{ehdr_bytes, shdr_bytes}}
 use Rattle.std.proofs.Common.{◌≡◌, ℕ, ◌+◌, ◌*◌, ◌≤◌, Bool, true, false, not, ◌&&◌, eqb, List, length, refl, ◌∙◌, ap, arith}
 use Rattle.std.specs.Prelude.{flat_map, nat_lt}
-use Rattle.std.proofs.lemmas.Bool.{ne_eqb}
-use Rattle.std.proofs.lemmas.Bool.Decides.{nat_tests}
-use Rattle.std.proofs.lemmas.Option.{slice_get_within}
+use Rattle.std.proofs.lemmas.{Bool.{ne_eqb}, Bool.Decides.{nat_tests}, Option.{slice_get_within}}
 use Rattle.oc_base.proofs.NumberLaws.{length-table}
 use Rattle.oc_neutral.specs.Objects.{Object}
 use Rattle.oc_shelf.specs.Writing.Parts.{place_where}
-use Rattle.oc_shelf.proofs.ReadingLaws.StageLemmas.{Unbroken}
-use Rattle.oc_shelf.proofs.WritingLaws.StandingLemmas.{stands_inside}
-use Rattle.oc_elf.specs.declared.class.ElfClass.{ElfClass}
-use Rattle.oc_elf.specs.Classes.{is_big, machine_of, word_of}
-use Rattle.oc_elf.specs.Ehdr.{ehdr_size}
-use Rattle.oc_elf.specs.Shdr.{shdr_size}
-use Rattle.oc_elf.specs.Headers.{header_conditions, names_conditions}
-use Rattle.oc_elf.specs.Structures.{ehdr_bytes, shdr_bytes}
-use Rattle.oc_base.specs.declared.format.Word.{Word}
-use Rattle.oc_base.specs.declared.format.Word.TheVariants.{W32, W64}
-use Rattle.oc_elf_file.specs.Heads.{ShstrtabHead, heads_of, head_where, is_shstrtab_head}
-use Rattle.oc_elf_file.specs.Layout.{laid_parts, is_head_table}
-use Rattle.oc_elf_file.specs.Headers.{shdr_of, zero_shdr, stored_headers}
-use Rattle.oc_elf_file.specs.Canonical.{file_header, elf_file}
-use Rattle.oc_elf_file.proofs.StructureLaws.{length-ehdr_bytes, length-shdr_bytes}
-use Rattle.oc_elf_file.proofs.HeadLaws.{shstrtab_at}
-use Rattle.oc_elf_file.proofs.PartLaws.{length-stored_headers, stands_file_header, table_stands}
-use Rattle.oc_elf_file.proofs.FrameLaws.{IsCodable, made_frame}
-use Rattle.oc_elf_file.proofs.CodedLaws.{IsForElf}
-use Rattle.oc_elf_file.proofs.TableLaws.{header_is}
-use Rattle.oc_elf_file.proofs.HeadCounts.{plain_heads}
+use Rattle.oc_shelf.proofs.{ReadingLaws.StageLemmas.{Unbroken}, WritingLaws.StandingLemmas.{stands_inside}}
+use Rattle.oc_base.specs.{declared.format.Word.{Word}, declared.format.Word.TheVariants.{W32, W64}}
+use Rattle.oc_elf_file.specs.{Heads.{ShstrtabHead, heads_of, head_where, is_shstrtab_head}, Layout.{laid_parts, is_head_table}}
+use Rattle.oc_elf_file.specs.{Headers.{shdr_of, zero_shdr, stored_headers}, Canonical.{file_header, elf_file}}
+use Rattle.oc_elf_file.proofs.{StructureLaws.{length-ehdr_bytes, length-shdr_bytes}, HeadLaws.{shstrtab_at}}
+use Rattle.oc_elf_file.proofs.{PartLaws.{length-stored_headers, stands_file_header, table_stands}, FrameLaws.{IsCodable, made_frame}, CodedLaws.{IsForElf}}
+use Rattle.oc_elf_file.proofs.{TableLaws.{header_is}, HeadCounts.{plain_heads}}
 
 -- a range that lies in the file
 pub within_file : (size end : ℕ) → end ≤ size → nat_lt size end ≡ false

@@ -1,41 +1,25 @@
 -- The numbers in the headers of a canonical file fit their widths.
-use Rattle.oc_elf.specs.Shdr.{shdr_size}
-use Rattle.oc_elf.specs.Ehdr.{ehdr_size}
-use Rattle.oc_elf.specs.Sym.{sym_size}
-use Rattle.oc_elf.specs.Rel.{rel_size}
+use Rattle.oc_elf.specs.{Shdr.{shdr_size}, Ehdr.{ehdr_size}, Sym.{sym_size}, Rel.{rel_size}, Shdr.{null_shdr}, declared.class.ElfClass.{ElfClass}}
+use Rattle.oc_elf.specs.{declared.shdr.Shdr.{Shdr}, Classes.{is_big, machine_of, reloc_type, word_of}}
+use Rattle.oc_elf.specs.Structures.{word_bytes, ehdr_numbers, shdr_bytes, shdr_numbers}
 use Rattle.std.proofs.Common.{◌≡◌, ℕ, ◌-◌, ◌^◌, ◌<◌, List, [], ◌∷◌, ◌++◌, length, Some, None, refl, sym, ◌∙◌, ap, subst, arith, length-append, Bool, true, false, not, ◌&&◌, ◌≤◌, inl, inr, cond}
-use Rattle.std.specs.Prelude.{slice_get, flat_map, nat_lt}
-use Rattle.std.proofs.lemmas.Bool.{cases_lt, lt-ltb, le-ltb}
-use Rattle.oc_elf.specs.Shdr.{null_shdr}
-use Rattle.std.specs.Option.{unwrap_or}
-use Rattle.std.proofs.lemmas.Option.{same_Some, slice_get_within}
-use Rattle.oc_base.specs.Strings.{is_given, table_text, table_place, place_from, tops_of}
+use Rattle.std.specs.{Prelude.{slice_get, flat_map, nat_lt}, Option.{unwrap_or}}
+use Rattle.std.proofs.lemmas.{Bool.{cases_lt, lt-ltb, le-ltb}, Option.{same_Some, slice_get_within}}
+use Rattle.oc_base.specs.{Strings.{is_given, table_text, table_place, place_from, tops_of}, declared.format.Word.{Word}}
+use Rattle.oc_base.specs.declared.format.Word.TheVariants.{W32, W64}
 use Rattle.oc_neutral.specs.Objects.{Object}
 use Rattle.oc_neutral.proofs.Positions.{there_at}
 use Rattle.oc_shelf.specs.Writing.Parts.{place_where}
-use Rattle.oc_shelf.proofs.WritingLaws.PackedLemmas.{Fit}
-use Rattle.oc_shelf.proofs.WritingLaws.StandingLemmas.{stands_inside}
-use Rattle.oc_shelf.proofs.WritingLaws.StringLemmas.{name_in_table}
-use Rattle.oc_elf.specs.declared.class.ElfClass.{ElfClass}
-use Rattle.oc_elf.specs.declared.shdr.Shdr.{Shdr}
-use Rattle.oc_elf.specs.Classes.{is_big, machine_of, reloc_type, word_of}
-use Rattle.oc_elf.specs.Structures.{word_bytes, ehdr_numbers, shdr_bytes, shdr_numbers}
-use Rattle.oc_base.specs.declared.format.Word.{Word}
-use Rattle.oc_base.specs.declared.format.Word.TheVariants.{W32, W64}
+use Rattle.oc_shelf.proofs.{WritingLaws.PackedLemmas.{Fit}, WritingLaws.StandingLemmas.{stands_inside}, WritingLaws.StringLemmas.{name_in_table}}
 use Rattle.oc_elf_file.specs.Heads.{Head, NullHead, GroupHead, SectionHead, RelocHead, SymtabHead, ShndxHead, StrtabHead, ShstrtabHead, heads_of, head_where, head_name, section_number, is_symtab_head, is_strtab_head, is_shstrtab_head}
 use Rattle.oc_elf_file.specs.Lines.{Line, lines_of, inner_lines, numbered_lines, signature_number, outer_lines}
 use Rattle.oc_elf_file.specs.Layout.{head_names, line_names, strings_of, body_size, laid_parts, is_head_table}
-use Rattle.oc_elf_file.specs.Headers.{plain_header, shdr_of, made_headers, extended_names, zero_shdr, stored_headers}
-use Rattle.oc_elf_file.specs.Symbols.{offset_in}
+use Rattle.oc_elf_file.specs.{Headers.{plain_header, shdr_of, made_headers, extended_names, zero_shdr, stored_headers}, Symbols.{offset_in}}
 use Rattle.oc_elf_file.specs.Canonical.{shown_count, shown_names, file_header, body_bytes, elf_file}
 use Rattle.oc_elf_file.proofs.HeadLaws.{IsHeadAt, head_at, symtab_at, strtab_at, shstrtab_at, section_at}
 use Rattle.oc_elf_file.proofs.PartLaws.{IsBody, body_stands, body_sized, length-made_headers, table_stands}
-use Rattle.oc_elf_file.proofs.CodedLaws.{IsForElf, few_sections, meets_section, size_low, power_low}
-use Rattle.oc_elf_file.proofs.FlagLaws.{flags_low, table_flags_low}
-use Rattle.oc_elf_file.proofs.SignatureLaws.{signature_found}
-use Rattle.oc_elf_file.proofs.FileSize.{few_lines, small_file}
-use Rattle.oc_elf_file.proofs.HeadCounts.{few_heads, plain_heads}
-use Rattle.oc_elf_file.proofs.FrameLaws.{IsIndex}
+use Rattle.oc_elf_file.proofs.{CodedLaws.{IsForElf, few_sections, meets_section, size_low, power_low}, FlagLaws.{flags_low, table_flags_low}}
+use Rattle.oc_elf_file.proofs.{SignatureLaws.{signature_found}, FileSize.{few_lines, small_file}, HeadCounts.{few_heads, plain_heads}, FrameLaws.{IsIndex}}
 
 -- each field is a number of 32 bits
 pub record IsSmall (s : Shdr) : Type 0 where

@@ -1,24 +1,16 @@
 -- What the file header of a canonical file says of the section headers: by this a file with many sections is told from one with few.
 use Rattle.std.proofs.Common.{◌≡◌, ℕ, ◌+◌, ◌≤◌, true, false, cond, ◌&&◌, not, eqb, List, [], ◌∷◌, ◌++◌, length, map, ap, arith}
 use Rattle.std.specs.Prelude.{nat_lt}
-use Rattle.std.proofs.lemmas.Bool.{ne_eqb}
-use Rattle.std.proofs.lemmas.Option.{slice_get_within}
+use Rattle.std.proofs.lemmas.{Bool.{ne_eqb}, Option.{slice_get_within}}
 use Rattle.oc_neutral.specs.Objects.{Object}
 use Rattle.oc_shelf.specs.Writing.Parts.{laid, place_where}
 use Rattle.oc_shelf.proofs.WritingLaws.StandingLemmas.{stands_inside}
-use Rattle.oc_elf.specs.declared.class.ElfClass.{ElfClass}
-use Rattle.oc_elf.specs.Classes.{is_big, word_of}
-use Rattle.oc_elf.specs.Ehdr.{ehdr_size}
-use Rattle.oc_elf.specs.Structures.{ehdr_bytes}
-use Rattle.oc_base.specs.declared.format.Word.{Word}
-use Rattle.oc_base.specs.declared.format.Word.TheVariants.{W32, W64}
+use Rattle.oc_elf.specs.{declared.class.ElfClass.{ElfClass}, Classes.{is_big, word_of}, Ehdr.{ehdr_size}, Structures.{ehdr_bytes}}
+use Rattle.oc_base.specs.{declared.format.Word.{Word}, declared.format.Word.TheVariants.{W32, W64}}
 use Rattle.oc_elf_file.specs.Heads.{Head, ShstrtabHead, heads_of, head_where, is_shstrtab_head}
 use Rattle.oc_elf_file.specs.Layout.{Body, HeadTable, parts_of, part_size, part_begin, is_head_table}
 use Rattle.oc_elf_file.specs.Canonical.{shown_count, shown_names, file_header, elf_file}
-use Rattle.oc_elf_file.proofs.StructureLaws.{length-ehdr_bytes}
-use Rattle.oc_elf_file.proofs.HeadLaws.{shstrtab_at}
-use Rattle.oc_elf_file.proofs.PartLaws.{rises, stands_file_header}
-use Rattle.oc_elf_file.proofs.CodedLaws.{IsForElf}
+use Rattle.oc_elf_file.proofs.{StructureLaws.{length-ehdr_bytes}, HeadLaws.{shstrtab_at}, PartLaws.{rises, stands_file_header}, CodedLaws.{IsForElf}}
 use Rattle.oc_elf_file.proofs.HeadCounts.{plain_heads}
 
 module _ (class : ElfClass) (n : Object) where

@@ -1,22 +1,12 @@
 -- The structures of both words are read back where their bytes stand.
 use Rattle.std.proofs.Common.{◌≡◌, ℕ, ◌+◌, ◌*◌, ◌/◌, ◌%◌, ◌<◌, List, length, refl, sym, arith}
-use Rattle.oc_base.specs.declared.format.Word.{Word}
-use Rattle.oc_base.specs.declared.format.Word.TheVariants.{W32, W64}
+use Rattle.oc_base.specs.{declared.format.Word.{Word}, declared.format.Word.TheVariants.{W32, W64}}
 use Rattle.oc_base.proofs.NumberLaws.{length-bytes_of_number}
-use Rattle.oc_elf.specs.declared.class.ElfClass.{ElfClass}
-use Rattle.oc_elf.specs.Classes.{word_of}
-use Rattle.oc_elf.specs.declared.ehdr.Ehdr.{Ehdr}
-use Rattle.oc_elf.specs.declared.shdr.Shdr.{Shdr}
-use Rattle.oc_elf.specs.declared.sym.Sym.{Sym}
-use Rattle.oc_elf.specs.declared.rel.Rel.{Rel}
-use Rattle.oc_elf.specs.Ehdr.{ehdr_in, ehdr_size}
-use Rattle.oc_elf.specs.Shdr.{shdr_in, shdr_size}
-use Rattle.oc_elf.specs.Sym.{signed_index, sym_in, sym_size}
-use Rattle.oc_elf.specs.Tables.{with_index}
-use Rattle.oc_elf.specs.Rel.{rel_in, rel_size}
-use Rattle.oc_shelf.specs.Writing.Packed.{packed}
-use Rattle.oc_shelf.specs.Writing.Parts.{Stands}
+use Rattle.oc_elf.specs.{declared.class.ElfClass.{ElfClass}, Classes.{word_of}, declared.ehdr.Ehdr.{Ehdr}, declared.shdr.Shdr.{Shdr}, declared.sym.Sym.{Sym}}
+use Rattle.oc_elf.specs.{declared.rel.Rel.{Rel}, Ehdr.{ehdr_in, ehdr_size}, Shdr.{shdr_in, shdr_size}, Sym.{signed_index, sym_in, sym_size}}
+use Rattle.oc_elf.specs.{Tables.{with_index}, Rel.{rel_in, rel_size}}
 use Rattle.oc_elf.specs.Structures.{ehdr_numbers, ehdr_bytes, shdr_numbers, shdr_bytes, stored_index, extended_index, index_bytes, sym_row, sym_numbers, sym_bytes, rel_numbers, rel_bytes}
+use Rattle.oc_shelf.specs.{Writing.Packed.{packed}, Writing.Parts.{Stands}}
 use Rattle.oc_shelf.proofs.WritingLaws.PackedLemmas.{Fit, length-packed, number_in}
 
 -- ... their sizes

@@ -1,42 +1,23 @@
 -- The entries of a canonical file's symbol table are of kinds that are carried, and stand in their sections.
-use Rattle.oc_elf_file.proofs.HeadCounts.{few_heads}
+use Rattle.oc_elf_file.proofs.{HeadCounts.{few_heads}, HeadLaws.{group_number-is, section_number-is, group_at, section_at}, FrameLaws.{IsCodable, made_frame}}
+use Rattle.oc_elf_file.proofs.{CodedLaws.{IsForElf, IsPlaced, meets_section, symbol_is, fallback_is}, TableLaws.{header_is, length-headers}}
+use Rattle.oc_elf_file.proofs.{LineLaws.{IsLineAt}, EntryLaws.{entry_with, bind_is, type_is}, HeaderClean.{within_file}, SectionClean.{power_found}}
+use Rattle.oc_elf_file.proofs.TableClean.{none_right}
 use Rattle.std.proofs.Common.{◌≡◌, ℕ, ◌≤◌, ◌⊎◌, inl, inr, Bool, true, false, not, ◌&&◌, ◌||◌, eqb, length, Some, refl, ◌∙◌, ap, arith}
 use Rattle.std.specs.Prelude.{slice_get, nat_lt}
-use Rattle.std.proofs.lemmas.Bool.{ne_eqb, lt-ltb}
-use Rattle.std.proofs.lemmas.Option.{slice_get_within}
-use Rattle.oc_linking.specs.declared.terms.Binding.{Binding}
-use Rattle.oc_linking.specs.declared.terms.Binding.TheVariants.{Local, Global, Undefined, Common, Weak}
+use Rattle.std.proofs.lemmas.{Bool.{ne_eqb, lt-ltb}, Option.{slice_get_within}}
+use Rattle.oc_linking.specs.{declared.terms.Binding.{Binding}, declared.terms.Binding.TheVariants.{Local, Global, Undefined, Common, Weak}}
+use Rattle.oc_linking.specs.{declared.terms.Mark.{Mark}, declared.terms.Mark.TheVariants.{NoType, Object as ObjectMark, Function}}
 use Rattle.oc_linking.specs.declared.terms.Fallback.TheVariants as fallback
-use Rattle.oc_linking.specs.declared.terms.Mark.{Mark}
-use Rattle.oc_linking.specs.declared.terms.Mark.TheVariants.{NoType, Object as ObjectMark, Function}
 use Rattle.oc_linking.specs.declared.terms.Value.TheVariants as value
-use Rattle.oc_neutral.specs.declared.section.Section.{Section}
-use Rattle.oc_neutral.specs.declared.symbol.Symbol.{Symbol}
-use Rattle.oc_neutral.specs.Invariants.{IsBinding, IsAlign, HasOffset}
+use Rattle.oc_neutral.specs.{declared.section.Section.{Section}, declared.symbol.Symbol.{Symbol}, Invariants.{IsBinding, IsAlign, HasOffset}, Objects.{Object}}
 use Rattle.oc_shows.specs.Manners.{elf_mark}
-use Rattle.oc_neutral.specs.Objects.{Object}
-use Rattle.oc_elf.specs.declared.class.ElfClass.{ElfClass}
-use Rattle.oc_elf.specs.declared.shdr.Shdr.{Shdr}
-use Rattle.oc_elf.specs.declared.sym.Sym.{Sym}
-use Rattle.oc_elf.specs.Sym.{bind_of, type_of}
-use Rattle.oc_elf.specs.Frames.{FileFrame, header_at}
-use Rattle.oc_elf.specs.Sections.{is_carried}
-use Rattle.oc_elf.specs.SectionRules.{is_power}
-use Rattle.oc_elf.specs.Entries.{is_local_entry, is_sectional}
+use Rattle.oc_elf.specs.{declared.class.ElfClass.{ElfClass}, declared.shdr.Shdr.{Shdr}, declared.sym.Sym.{Sym}, Sym.{bind_of, type_of}}
+use Rattle.oc_elf.specs.{Frames.{FileFrame, header_at}, Sections.{is_carried}, SectionRules.{is_power}, Entries.{is_local_entry, is_sectional}}
 use Rattle.oc_elf.specs.SymbolRules.{is_odd_symbol}
 use Rattle.oc_elf_file.specs.Heads.{Head, GroupHead, SectionHead, heads_of, group_number, section_number}
-use Rattle.oc_elf_file.specs.Lines.{Line, NullLine, SectionLine, SignatureLine, LocalLine, OuterLine, lines_of}
-use Rattle.oc_elf_file.specs.Headers.{shdr_of}
+use Rattle.oc_elf_file.specs.{Lines.{Line, NullLine, SectionLine, SignatureLine, LocalLine, OuterLine, lines_of}, Headers.{shdr_of}}
 use Rattle.oc_elf_file.specs.Symbols.{ValueFields, value_fields_for, type_by, local_entry, line_entry, bind_by}
-use Rattle.oc_elf_file.proofs.HeadLaws.{group_number-is, section_number-is, group_at, section_at}
-use Rattle.oc_elf_file.proofs.FrameLaws.{IsCodable, made_frame}
-use Rattle.oc_elf_file.proofs.CodedLaws.{IsForElf, IsPlaced, meets_section, symbol_is, fallback_is}
-use Rattle.oc_elf_file.proofs.TableLaws.{header_is, length-headers}
-use Rattle.oc_elf_file.proofs.LineLaws.{IsLineAt}
-use Rattle.oc_elf_file.proofs.EntryLaws.{entry_with, bind_is, type_is}
-use Rattle.oc_elf_file.proofs.HeaderClean.{within_file}
-use Rattle.oc_elf_file.proofs.SectionClean.{power_found}
-use Rattle.oc_elf_file.proofs.TableClean.{none_right}
 
 -- ... kinds of symbols
 

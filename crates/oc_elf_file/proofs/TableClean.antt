@@ -1,41 +1,24 @@
 -- The tables of a canonical file are well formed, and no header is of a kind that is not read.
-use Rattle.oc_elf.specs.Shdr.{null_shdr}
+use Rattle.oc_elf.specs.{Shdr.{null_shdr}, declared.class.ElfClass.{ElfClass}, declared.constants.TheConstants.{SHT_SYMTAB, SHT_STRTAB}}
+use Rattle.oc_elf.specs.{declared.shdr.Shdr.{Shdr}, Classes.{reloc_type, foreign_type, word_of}, Frames.{FileFrame, header_at}, Rel.{rel_size}}
+use Rattle.oc_elf.specs.{Sections.{is_type, shndx_number, symtab_among, table_among, relocated_by}, Sym.{sym_size}}
+use Rattle.oc_elf.specs.SectionRules.{known_types, has_entries, is_left_out, is_good_symtab, is_good_table, is_good_shndx, table_conditions}
 use Rattle.oc_neutral.proofs.Positions.{there_at}
 use Rattle.std.proofs.Common.{◌≡◌, ℕ, zero, suc, ◌+◌, ◌*◌, ◌%◌, ◌/◌, ◌<◌, inl, inr, Bool, true, false, not, ◌&&◌, ◌||◌, cond, eqb, List, [], ◌∷◌, length, Option, Some, None, refl, sym, ◌∙◌, ap, arith}
-use Rattle.std.specs.Prelude.{slice_get, nat_lt, nat_le}
-use Rattle.std.specs.List.{list_any, enumerate_from, AllByRecursion}
-use Rattle.std.specs.Option.{is_some, option_map_or}
-use Rattle.std.proofs.lemmas.Bool.{true≢false, eq-eqb, eqb-true, lt-ltb, le-leb}
-use Rattle.std.proofs.lemmas.Option.{none-some, same_Some, slice_get_within}
+use Rattle.std.specs.{Prelude.{slice_get, nat_lt, nat_le}, List.{list_any, enumerate_from, AllByRecursion}, Option.{is_some, option_map_or}}
+use Rattle.std.proofs.lemmas.{Bool.{true≢false, eq-eqb, eqb-true, lt-ltb, le-leb}, Option.{none-some, same_Some, slice_get_within}}
 use Rattle.oc_chains.specs.Lists.{list_of}
-use Rattle.oc_neutral.specs.declared.section.Section.{Section}
-use Rattle.oc_neutral.specs.Objects.{Object}
-use Rattle.oc_neutral.specs.Elf.Kinds.{carried_types, is_carried_type, elf_tag_type, is_nobits_tag, elf_tag_flags}
-use Rattle.oc_neutral.specs.KindRules.{has}
-use Rattle.oc_shelf.proofs.ReadingLaws.FirstsLemmas.{keyed_from}
-use Rattle.oc_shelf.proofs.ReadingLaws.StageLemmas.{Unbroken, upto_none}
+use Rattle.oc_neutral.specs.{declared.section.Section.{Section}, Objects.{Object}}
+use Rattle.oc_neutral.specs.{Elf.Kinds.{carried_types, is_carried_type, elf_tag_type, is_nobits_tag, elf_tag_flags}, KindRules.{has}, Families.{is_many}}
+use Rattle.oc_shelf.proofs.{ReadingLaws.FirstsLemmas.{keyed_from}, ReadingLaws.StageLemmas.{Unbroken, upto_none}}
 use Rattle.oc_shelf.proofs.WritingLaws.MemberLemmas.{keyed_once, of_append, of_filter_map}
-use Rattle.oc_elf.specs.declared.class.ElfClass.{ElfClass}
-use Rattle.oc_elf.specs.declared.constants.TheConstants.{SHT_SYMTAB, SHT_STRTAB}
-use Rattle.oc_elf.specs.declared.shdr.Shdr.{Shdr}
-use Rattle.oc_elf.specs.Classes.{reloc_type, foreign_type, word_of}
-use Rattle.oc_elf.specs.Frames.{FileFrame, header_at}
-use Rattle.oc_elf.specs.Rel.{rel_size}
-use Rattle.oc_elf.specs.Sections.{is_type, shndx_number, symtab_among, table_among, relocated_by}
-use Rattle.oc_elf.specs.Sym.{sym_size}
-use Rattle.oc_elf.specs.SectionRules.{known_types, has_entries, is_left_out, is_good_symtab, is_good_table, is_good_shndx, table_conditions}
-use Rattle.oc_base.specs.declared.format.Word.{Word}
-use Rattle.oc_base.specs.declared.format.Word.TheVariants.{W32, W64}
+use Rattle.oc_base.specs.{declared.format.Word.{Word}, declared.format.Word.TheVariants.{W32, W64}}
 use Rattle.oc_elf_file.specs.Heads.{Head, NullHead, GroupHead, SectionHead, RelocHead, SymtabHead, ShndxHead, StrtabHead, ShstrtabHead, reloc_head, reloc_heads, table_heads_by, table_heads, heads_of, head_where, section_number, is_symtab_head, is_shndx_head, is_strtab_head, is_shstrtab_head}
-use Rattle.oc_neutral.specs.Families.{is_many}
-use Rattle.oc_elf_file.specs.Lines.{lines_of}
-use Rattle.oc_elf_file.specs.Headers.{shdr_of}
-use Rattle.oc_elf_file.proofs.HeadLaws.{IsHeadAt, head_at, head_behind, symtab_at, strtab_at, section_at, symtab_only}
-use Rattle.oc_elf_file.proofs.FrameLaws.{IsCodable, made_frame}
+use Rattle.oc_elf_file.specs.{Lines.{lines_of}, Headers.{shdr_of}}
+use Rattle.oc_elf_file.proofs.{HeadLaws.{IsHeadAt, head_at, head_behind, symtab_at, strtab_at, section_at, symtab_only}, FrameLaws.{IsCodable, made_frame}}
 use Rattle.oc_elf_file.proofs.CodedLaws.{IsForElf, many_is, meets_section}
 use Rattle.oc_elf_file.proofs.FlagLaws.{flags_of, alloc, no_link_order, no_tls, no_compressed, table_no_alloc, table_no_link_order, table_no_tls, table_no_compressed, table_flags}
-use Rattle.oc_elf_file.proofs.TableLaws.{carried_not, header_is, length-headers, symtab_test, shndx_read}
-use Rattle.oc_elf_file.proofs.RelocTableLaws.{table_head}
+use Rattle.oc_elf_file.proofs.{TableLaws.{carried_not, header_is, length-headers, symtab_test, shndx_read}, RelocTableLaws.{table_head}}
 
 pub none_right : (a : Bool) → (a && false) ≡ false
 none_right true = refl

@@ -4,20 +4,11 @@ use Rattle.std.specs.List.{AllByRecursion}
 use Rattle.oc_linking.specs.Keeping.{all}
 use Rattle.oc_neutral.specs.Objects.{Object}
 use Rattle.oc_shelf.proofs.ReadingLaws.StageLemmas.{Unbroken, IsUnbroken, no_first_fault}
-use Rattle.oc_elf.specs.declared.class.ElfClass.{ElfClass}
-use Rattle.oc_elf.specs.Elf.{elf_is_dialect, rest_stages, stages_of, fault_in}
-use Rattle.oc_elf.specs.Frames.{FileFrame, zero_in}
-use Rattle.oc_elf.specs.Headers.{header_stage, names_stage, header_conditions, names_conditions}
-use Rattle.oc_elf.specs.Classes.{word_of}
-use Rattle.oc_elf_file.specs.Canonical.{file_header, elf_file}
-use Rattle.oc_elf_file.specs.Writing.{ElfIsWritten}
-use Rattle.oc_elf_file.proofs.FrameLaws.{IsCodable, made_frame, header_read, zero_read, frame_read}
-use Rattle.oc_elf_file.proofs.CodedLaws.{IsForElf, for_elf}
-use Rattle.oc_elf_file.proofs.CodableLaws.{has_numbers}
-use Rattle.oc_elf_file.proofs.ShowsLaw.{elf_shows}
-use Rattle.oc_elf_file.proofs.HeaderClean.{header_clean, names_clean}
-use Rattle.oc_elf_file.proofs.SectionClean.{sections_clean}
-use Rattle.oc_elf_file.proofs.SymbolClean.{symbols_clean}
+use Rattle.oc_elf.specs.{declared.class.ElfClass.{ElfClass}, Elf.{elf_is_dialect, rest_stages, stages_of, fault_in}, Frames.{FileFrame, zero_in}}
+use Rattle.oc_elf.specs.{Headers.{header_stage, names_stage, header_conditions, names_conditions}, Classes.{word_of}}
+use Rattle.oc_elf_file.specs.{Canonical.{file_header, elf_file}, Writing.{ElfIsWritten}}
+use Rattle.oc_elf_file.proofs.{FrameLaws.{IsCodable, made_frame, header_read, zero_read, frame_read}, CodedLaws.{IsForElf, for_elf}, CodableLaws.{has_numbers}}
+use Rattle.oc_elf_file.proofs.{ShowsLaw.{elf_shows}, HeaderClean.{header_clean, names_clean}, SectionClean.{sections_clean}, SymbolClean.{symbols_clean}}
 use Rattle.oc_elf_file.proofs.RelocationClean.{relocations_clean}
 
 module _ (class : ElfClass) (n : Object) (is : IsForElf class n) (fits : IsCodable class n) where

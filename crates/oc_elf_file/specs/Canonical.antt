@@ -1,21 +1,13 @@
 -- The canonical file of an object that is ready for ELF (gABI; i386 and x86-64 psABI; our profile).
 use Rattle.std.specs.Prelude.{ℕ, not, ◌&&◌, nat_lt, if◌then◌else◌, List, [], length, flat_map}
 use Rattle.oc_neutral.specs.Objects.{Object}
-use Rattle.oc_elf.specs.declared.class.ElfClass.{ElfClass}
-use Rattle.oc_elf.specs.declared.constants.TheConstants.{ELFDATA2LSB, EV_CURRENT, ET_REL, SHN_XINDEX}
-use Rattle.oc_elf.specs.declared.ehdr.Ehdr.{Ehdr}
-use Rattle.oc_elf.specs.Classes.{machine_of, is_big, word_of}
-use Rattle.oc_elf.specs.Ehdr.{ehdr_size}
-use Rattle.oc_elf.specs.Shdr.{shdr_size}
+use Rattle.oc_elf.specs.{declared.class.ElfClass.{ElfClass}, declared.constants.TheConstants.{ELFDATA2LSB, EV_CURRENT, ET_REL, SHN_XINDEX}}
+use Rattle.oc_elf.specs.{declared.ehdr.Ehdr.{Ehdr}, Classes.{machine_of, is_big, word_of}, Ehdr.{ehdr_size}, Shdr.{shdr_size}}
+use Rattle.oc_elf.specs.{declared.constants.TheConstants.{FIRST_EXTENDED}, Structures.{ehdr_bytes, shdr_bytes, sym_bytes, index_bytes, rel_bytes}}
 use Rattle.oc_shelf.specs.Writing.Parts.{joined, place_where}
-use Rattle.oc_elf.specs.declared.constants.TheConstants.{FIRST_EXTENDED}
-use Rattle.oc_elf.specs.Structures.{ehdr_bytes, shdr_bytes, sym_bytes, index_bytes, rel_bytes}
 use Rattle.oc_elf_file.specs.Heads.{Head, NullHead, GroupHead, SectionHead, RelocHead, SymtabHead, ShndxHead, StrtabHead, ShstrtabHead, heads_of, head_where, is_shstrtab_head}
-use Rattle.oc_elf_file.specs.Lines.{Line, lines_of, numbered_lines}
-use Rattle.oc_elf_file.specs.Groups.{group_words, group_bytes}
-use Rattle.oc_elf_file.specs.Bodies.{raw_of, rels_of}
-use Rattle.oc_elf_file.specs.Layout.{Part, FileHead, Body, HeadTable, head_names, line_names, strings_of, laid_parts, is_head_table}
-use Rattle.oc_elf_file.specs.Headers.{stored_headers}
+use Rattle.oc_elf_file.specs.{Lines.{Line, lines_of, numbered_lines}, Groups.{group_words, group_bytes}, Bodies.{raw_of, rels_of}}
+use Rattle.oc_elf_file.specs.{Layout.{Part, FileHead, Body, HeadTable, head_names, line_names, strings_of, laid_parts, is_head_table}, Headers.{stored_headers}}
 use Rattle.oc_elf_file.specs.Symbols.{line_entry}
 
 -- how many headers there are, by the file header: where sections are many, header 0 has the number

@@ -1,22 +1,14 @@
 -- The section headers of an output (gABI, "Section Header" and "Section Groups"; our profile).
 use Rattle.std.specs.Prelude.{ℕ, ◌+◌, nat_lt, if◌then◌else◌, List, [], ◌∷◌, length, filter_map, Option, Some, None}
-use Rattle.oc_neutral.specs.Objects.{Object}
-use Rattle.oc_neutral.specs.Elf.Kinds.{elf_tag_type, elf_tag_flags}
+use Rattle.oc_neutral.specs.{Objects.{Object}, Elf.Kinds.{elf_tag_type, elf_tag_flags}}
 use Rattle.oc_elf.specs.declared.class.ElfClass.{ElfClass}
 use Rattle.oc_elf.specs.declared.constants.TheConstants.{SHT_SYMTAB, SHT_SYMTAB_SHNDX, SHT_STRTAB, SHT_GROUP, GRP_ENTRY_SIZE, SHNDX_SIZE}
-use Rattle.oc_elf.specs.declared.shdr.Shdr.{Shdr}
-use Rattle.oc_elf.specs.Classes.{is_big, reloc_type, word_of}
-use Rattle.oc_elf.specs.Shdr.{null_shdr}
-use Rattle.oc_elf.specs.Sym.{sym_size}
-use Rattle.oc_elf.specs.Rel.{rel_size}
+use Rattle.oc_elf.specs.{declared.shdr.Shdr.{Shdr}, Classes.{is_big, reloc_type, word_of}, Shdr.{null_shdr}, Sym.{sym_size}, Rel.{rel_size}}
+use Rattle.oc_elf.specs.{declared.constants.TheConstants.{FIRST_EXTENDED, SHF_INFO_LINK}, Structures.{word_bytes}}
 use Rattle.oc_shelf.specs.Writing.Parts.{Laid}
-use Rattle.oc_elf.specs.declared.constants.TheConstants.{FIRST_EXTENDED, SHF_INFO_LINK}
-use Rattle.oc_elf.specs.Structures.{word_bytes}
 use Rattle.oc_elf_file.specs.Heads.{Head, NullHead, GroupHead, SectionHead, RelocHead, SymtabHead, ShndxHead, StrtabHead, ShstrtabHead, heads_of, head_where, section_number, is_symtab_head, is_strtab_head, is_shstrtab_head, head_name}
-use Rattle.oc_elf_file.specs.Lines.{inner_lines, numbered_lines, signature_number}
-use Rattle.oc_elf_file.specs.Groups.{member_flag}
-use Rattle.oc_elf_file.specs.Layout.{Part, FileHead, Body, HeadTable, body_size, head_names, laid_parts}
-use Rattle.oc_elf_file.specs.Symbols.{offset_in}
+use Rattle.oc_elf_file.specs.{Lines.{inner_lines, numbered_lines, signature_number}, Groups.{member_flag}}
+use Rattle.oc_elf_file.specs.{Layout.{Part, FileHead, Body, HeadTable, body_size, head_names, laid_parts}, Symbols.{offset_in}}
 
 -- the section header of a string table that lies at a place; others differ from it
 abbrev pub plain_header : ElfClass → Object → ℕ → Head → Shdr

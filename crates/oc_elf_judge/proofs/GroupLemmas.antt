@@ -1,20 +1,12 @@
 -- The members of groups, taken up one after the other.
 use Rattle.std.proofs.Common.{◌≡◌, ℕ, ◌+◌, ◌<◌, ◌≤◌, inl, inr, Bool, true, false, cond, eqb, List, length, set, Option, None, Some, refl, sym, ◌∙◌, ap, arith}
 use Rattle.std.specs.Prelude.{◌&&◌, ◌||◌, nat_eq, nat_le, is_some, slice_index_or, if◌then◌else◌}
-use Rattle.std.proofs.lemmas.Bool.{eqb-true, true≢false, and_parts}
-use Rattle.std.proofs.lemmas.Bool.{cases_lt}
-use Rattle.std.proofs.lemmas.Bool.Decides.{nat_tests}
+use Rattle.std.proofs.lemmas.{Bool.{eqb-true, true≢false, and_parts}, Bool.{cases_lt}, Bool.Decides.{nat_tests}}
 use Rattle.oc_linking.specs.Numbers.{or_else}
-use Rattle.oc_shelf.specs.Reading.Firsts.{any_upto}
-use Rattle.oc_shelf.specs.Reading.Slots.{AreSlots}
-use Rattle.oc_shelf.proofs.ReadingLaws.FirstsLemmas.{any_more, first_more}
-use Rattle.oc_shelf.proofs.ReadingLaws.SlotLemmas.{slots_filled, slots_same}
-use Rattle.oc_elf.specs.declared.constants.TheConstants.{SHT_GROUP}
-use Rattle.oc_elf.specs.declared.shdr.Shdr.{Shdr}
-use Rattle.oc_elf.specs.Frames.{FileFrame, header_at}
-use Rattle.oc_elf.specs.Groups.{has_member, is_member, member_at, member_count, owner_among}
-use Rattle.oc_elf.specs.Sections.{is_type}
-use Rattle.oc_elf.specs.SectionRules.{is_bad_member, is_good_group}
+use Rattle.oc_shelf.specs.{Reading.Firsts.{any_upto}, Reading.Slots.{AreSlots}}
+use Rattle.oc_shelf.proofs.{ReadingLaws.FirstsLemmas.{any_more, first_more}, ReadingLaws.SlotLemmas.{slots_filled, slots_same}}
+use Rattle.oc_elf.specs.{declared.constants.TheConstants.{SHT_GROUP}, declared.shdr.Shdr.{Shdr}, Frames.{FileFrame, header_at}}
+use Rattle.oc_elf.specs.{Groups.{has_member, is_member, member_at, member_count, owner_among}, Sections.{is_type}, SectionRules.{is_bad_member, is_good_group}}
 use Rattle.oc_elf_judge.proofs.TableLemmas.{at_least}
 
 module _ (f : FileFrame) (k : ℕ) (s : Shdr) where

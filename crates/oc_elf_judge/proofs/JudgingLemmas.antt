@@ -1,22 +1,12 @@
 -- The stages of reading together.
 use Rattle.std.proofs.Common.{◌≡◌, ℕ, ◌<◌, ◌^◌, true, cond, List, length, Option, None, sym, ◌∙◌, ap, arith, inl, inr}
 use Rattle.std.proofs.lemmas.Bool.{true≢false, and_parts}
-use Rattle.oc_base.specs.declared.fault.Fault.{Fault}
-use Rattle.oc_base.specs.declared.stop.Stop.{Stop}
+use Rattle.oc_base.specs.{declared.fault.Fault.{Fault}, declared.stop.Stop.{Stop}, Stops.{IsStop}}
 use Rattle.oc_base.specs.declared.stop.Stop.TheVariants as stop
-use Rattle.oc_base.specs.Stops.{IsStop}
-use Rattle.oc_linking.specs.declared.terms.Keep.{Keep}
-use Rattle.oc_linking.specs.FirstFault.{fault_of, first_fault, stage_fault}
-use Rattle.oc_linking.specs.Numbers.{first_upto, or_else}
+use Rattle.oc_linking.specs.{declared.terms.Keep.{Keep}, FirstFault.{fault_of, first_fault, stage_fault}, Numbers.{first_upto, or_else}}
 use Rattle.oc_shelf.proofs.ReadingLaws.StageLemmas.{clean_at, first_fault-append}
-use Rattle.oc_elf.specs.declared.class.ElfClass.{ElfClass}
-use Rattle.oc_elf.specs.Elf.{fault_in, rest_stages}
-use Rattle.oc_elf.specs.Frames.{FileFrame, framed, header_at}
-use Rattle.oc_elf.specs.Headers.{header_stages}
-use Rattle.oc_elf.specs.Laid.{IsFrame}
-use Rattle.oc_elf.specs.RelocRules.{entry_fault, is_kept_section, reloc_stage}
-use Rattle.oc_elf.specs.Sections.{is_carried}
-use Rattle.oc_elf.specs.SectionRules.{section_stage}
+use Rattle.oc_elf.specs.{declared.class.ElfClass.{ElfClass}, Elf.{fault_in, rest_stages}, Frames.{FileFrame, framed, header_at}, Headers.{header_stages}}
+use Rattle.oc_elf.specs.{Laid.{IsFrame}, RelocRules.{entry_fault, is_kept_section, reloc_stage}, Sections.{is_carried}, SectionRules.{section_stage}}
 use Rattle.oc_elf.specs.Tables.{reloc_count}
 use Rattle.oc_elf_judge.proofs.SectionLemmas.{here, null_first, sound_at}
 

@@ -1,11 +1,9 @@
 -- The keys of headers, by their numbers.
 use Rattle.std.proofs.Common.{◌≡◌, ℕ, ◌<◌, ◌∙◌, length, None, ap, arith}
 use Rattle.std.specs.Option.{option_flatten}
-use Rattle.std.proofs.lemmas.List.FromFn.{length-map-range_with_len, get_or-map-range_with_len}
-use Rattle.std.proofs.lemmas.Option.{slice_get-get_or}
+use Rattle.std.proofs.lemmas.{List.FromFn.{length-map-range_with_len, get_or-map-range_with_len}, Option.{slice_get-get_or}}
 use Rattle.oc_strings.specs.Repeats.{name_at}
-use Rattle.oc_elf.specs.Frames.{FileFrame}
-use Rattle.oc_elf.specs.Groups.{comdat_key, comdat_keys}
+use Rattle.oc_elf.specs.{Frames.{FileFrame}, Groups.{comdat_key, comdat_keys}}
 
 pub keyed_at : (f : FileFrame) (g : ℕ) → g < length f.headers → name_at (comdat_keys f) g ≡ comdat_key f g
 keyed_at f g low =

@@ -3,10 +3,8 @@ use Rattle.std.proofs.Common.{◌≡◌, ℕ, zero, suc, ◌+◌, ◌<◌, inl, 
 use Rattle.std.specs.Prelude.{◌&&◌, ◌||◌}
 use Rattle.std.proofs.lemmas.Bool.{cases_eq, eq-eqb, ne_eqb}
 use Rattle.oc_shelf.proofs.ReadingLaws.FirstsLemmas.{any_more}
-use Rattle.oc_elf.specs.Frames.{FileFrame}
-use Rattle.oc_elf.specs.Groups.{is_comdat}
+use Rattle.oc_elf.specs.{Frames.{FileFrame}, Groups.{is_comdat}, SymbolRules.{is_bad_key, is_bad_signature}}
 use Rattle.oc_elf_judge.specs.Marks.{AreMarks}
-use Rattle.oc_elf.specs.SymbolRules.{is_bad_key, is_bad_signature}
 use Rattle.oc_elf_judge.proofs.SectionLemmas.{here}
 
 -- header g is a group without a key of its own, and symbol k its signature

@@ -1,10 +1,7 @@
 -- Which sections are carried.
 use Rattle.std.proofs.Common.{◌≡◌, ℕ, ◌≤◌, true, false, length, None, Some, refl, ap}
-use Rattle.oc_elf.specs.Frames.{FileFrame}
-use Rattle.oc_elf.specs.Sections.{is_carried}
-use Rattle.oc_elf.specs.CarriedSections.{section_with, section_of, position_of}
-use Rattle.oc_elf_judge.proofs.SectionLemmas.{here}
-use Rattle.oc_elf_judge.proofs.TableLemmas.{header_past}
+use Rattle.oc_elf.specs.{Frames.{FileFrame}, Sections.{is_carried}, CarriedSections.{section_with, section_of, position_of}}
+use Rattle.oc_elf_judge.proofs.{SectionLemmas.{here}, TableLemmas.{header_past}}
 
 pub section_some : (f : FileFrame) (k : ℕ) → is_carried (here f k) ≡ true → section_of f k ≡ Some (section_with f k (here f k))
 unfolding section_of

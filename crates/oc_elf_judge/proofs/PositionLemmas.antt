@@ -1,17 +1,10 @@
 -- Positions of what is carried, one entry after the other.
 use Rattle.std.proofs.Common.{◌≡◌, ℕ, ◌/◌, ◌≤◌, Bool, true, false, cond, List, length, Option, None, Some, refl, sym, ap, arith, is_some}
-use Rattle.oc_shelf.specs.Reading.Collected.{collected, position_in}
-use Rattle.oc_shelf.specs.Reading.Slots.{AreSlots}
-use Rattle.oc_elf.specs.Frames.{FileFrame, header_at}
-use Rattle.oc_elf.specs.Sections.{is_carried}
-use Rattle.oc_elf.specs.CarriedSections.{section_of, section_with}
-use Rattle.oc_elf.specs.declared.shdr.Shdr.{Shdr}
+use Rattle.oc_shelf.specs.{Reading.Collected.{collected, position_in}, Reading.Slots.{AreSlots}}
+use Rattle.oc_elf.specs.{Frames.{FileFrame, header_at}, Sections.{is_carried}, CarriedSections.{section_of, section_with}, declared.shdr.Shdr.{Shdr}}
+use Rattle.oc_elf.specs.{Sym.{sym_size}, Tables.{symbol_count, symtab_of}, Classes.{word_of}}
 use Rattle.oc_elf_judge.specs.Known.{IsSymtab}
-use Rattle.oc_elf.specs.Sym.{sym_size}
-use Rattle.oc_elf.specs.Tables.{symbol_count, symtab_of}
-use Rattle.oc_elf.specs.Classes.{word_of}
-use Rattle.oc_base.specs.declared.format.Word.{Word}
-use Rattle.oc_base.specs.declared.format.Word.TheVariants.{W32, W64}
+use Rattle.oc_base.specs.{declared.format.Word.{Word}, declared.format.Word.TheVariants.{W32, W64}}
 
 module _ {X : Type 0} (item : ℕ → Option X) where
   -- the positions so far, and the next

@@ -1,37 +1,19 @@
 -- The entries of a relocation table, judged one after the other.
 use Rattle.std.proofs.Common.{◌≡◌, ℕ, ◌+◌, ◌*◌, ◌<◌, ◌≤◌, Bool, true, false, cond, eqb, List, [], ◌∷◌, Option, None, Some, refl, sym, ◌∙◌, ap, subst, arith}
-use Rattle.std.specs.Prelude.{not, ◌&&◌, ◌||◌, nat_lt, nat_le, is_some, is_none, length}
-use Rattle.std.specs.Option.{option_map, option_map_or}
-use Rattle.std.proofs.lemmas.Option.{none-some, same_Some}
-use Rattle.std.proofs.lemmas.Bool.{true≢false, and_parts, not-false}
-use Rattle.std.proofs.lemmas.Bool.Decides.{nat_tests}
-use Rattle.oc_base.specs.declared.fault.Fault.{Fault}
-use Rattle.oc_linking.specs.Numbers.{first_upto, or_else}
-use Rattle.oc_linking.specs.FirstFault.{first_broken}
-use Rattle.oc_linking.specs.Fits.{bytes_of}
-use Rattle.oc_linking.specs.declared.terms.Base.{Base}
-use Rattle.oc_linking.specs.declared.terms.Base.TheVariants.{Address}
-use Rattle.oc_linking.specs.declared.terms.Width.{Width}
-use Rattle.oc_linking.specs.declared.terms.Width.TheVariants.{One, Two, Four, Eight}
-use Rattle.oc_base.specs.declared.code.Code.TheVariants.{BadOffset, BadTarget, Overlap, RelocKind, TargetKind}
-use Rattle.oc_neutral.specs.declared.elf.TheConstants.{SHT_NOBITS}
-use Rattle.oc_elf.specs.Sections.{is_type}
-use Rattle.oc_neutral.specs.Rows.{Row, same_base}
+use Rattle.std.specs.{Prelude.{not, ◌&&◌, ◌||◌, nat_lt, nat_le, is_some, is_none, length}, Option.{option_map, option_map_or}}
+use Rattle.std.proofs.lemmas.{Option.{none-some, same_Some}, Bool.{true≢false, and_parts, not-false}, Bool.Decides.{nat_tests}}
+use Rattle.oc_base.specs.{declared.fault.Fault.{Fault}, declared.code.Code.TheVariants.{BadOffset, BadTarget, Overlap, RelocKind, TargetKind}}
+use Rattle.oc_linking.specs.{Numbers.{first_upto, or_else}, FirstFault.{first_broken}, Fits.{bytes_of}, declared.terms.Base.{Base}}
+use Rattle.oc_linking.specs.{declared.terms.Base.TheVariants.{Address}, declared.terms.Width.{Width}, declared.terms.Width.TheVariants.{One, Two, Four, Eight}}
+use Rattle.oc_neutral.specs.{declared.elf.TheConstants.{SHT_NOBITS}, Rows.{Row, same_base}}
+use Rattle.oc_elf.specs.{Sections.{is_type}, declared.class.ElfClass.{ElfClass}, declared.meaning.Meaning.{Meaning}, declared.rel.Rel.{Rel}}
+use Rattle.oc_elf.specs.{declared.shdr.Shdr.{Shdr}, Frames.{FileFrame, header_at}, Fields.{is_idle, row_for, width_of}, Meanings.{meaning_of, meant_by}}
+use Rattle.oc_elf.specs.RelocRules.{entry_fault, is_nameable, is_target_for, lies_within, meets_upto, own_conditions, rel_conditions, reloc_conditions, reloc_fault, span_of, stored_size, takes_address}
+use Rattle.oc_elf.specs.{CarriedSymbols.{home_of, symbol_of}, Entries.{is_local_entry, is_section_symbol}}
+use Rattle.oc_elf.specs.Tables.{entry_of, reloc_of, reloc_place, symbol_count}
 use Rattle.oc_elf_judge.specs.Known.{AreTaken, can_be_target}
 use Rattle.oc_shelf.specs.Reading.Bitmaps.{has, is_between, room}
-use Rattle.oc_shelf.proofs.ReadingLaws.BitmapLemmas.{bytes_more, bytes_same}
-use Rattle.oc_shelf.proofs.ReadingLaws.StageLemmas.{all_hold, first_broken-append}
-use Rattle.oc_elf.specs.declared.class.ElfClass.{ElfClass}
-use Rattle.oc_elf.specs.declared.meaning.Meaning.{Meaning}
-use Rattle.oc_elf.specs.declared.rel.Rel.{Rel}
-use Rattle.oc_elf.specs.declared.shdr.Shdr.{Shdr}
-use Rattle.oc_elf.specs.Frames.{FileFrame, header_at}
-use Rattle.oc_elf.specs.Fields.{is_idle, row_for, width_of}
-use Rattle.oc_elf.specs.Meanings.{meaning_of, meant_by}
-use Rattle.oc_elf.specs.RelocRules.{entry_fault, is_nameable, is_target_for, lies_within, meets_upto, own_conditions, rel_conditions, reloc_conditions, reloc_fault, span_of, stored_size, takes_address}
-use Rattle.oc_elf.specs.CarriedSymbols.{home_of, symbol_of}
-use Rattle.oc_elf.specs.Entries.{is_local_entry, is_section_symbol}
-use Rattle.oc_elf.specs.Tables.{entry_of, reloc_of, reloc_place, symbol_count}
+use Rattle.oc_shelf.proofs.{ReadingLaws.BitmapLemmas.{bytes_more, bytes_same}, ReadingLaws.StageLemmas.{all_hold, first_broken-append}}
 
 -- the entries so far have no fault, and the bytes taken are those of their fields
 pub record IsJudging (f : FileFrame) (i k : ℕ) (words : List ℕ) : Type 0 where

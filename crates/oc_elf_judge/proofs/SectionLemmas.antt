@@ -1,32 +1,19 @@
 -- What a section header has that has no fault, and the loop over all.
 use Rattle.std.proofs.Common.{◌≡◌, ℕ, zero, suc, ◌+◌, ◌<◌, ◌≤◌, ◌^◌, ◌⊎◌, inl, inr, Bool, true, false, cond, eqb, List, [], ◌∷◌, ◌++◌, length, map, set, Option, None, Some, refl, sym, ◌∙◌, ap, subst, arith}
-use Rattle.std.specs.Prelude.{not, ◌&&◌, ◌||◌, nat_lt, is_some, if◌then◌else◌}
-use Rattle.std.specs.List.{range_with_len}
-use Rattle.std.proofs.lemmas.Bool.{eqb-true, true≢false, and_parts, not-false}
-use Rattle.std.proofs.lemmas.Bool.Decides.{nat_tests}
-use Rattle.oc_base.specs.declared.code.Code.TheVariants.{BadAlign, AlignRange, BadTable, Group}
-use Rattle.oc_base.specs.declared.fault.Fault.{Fault}
-use Rattle.oc_linking.specs.Numbers.{first_upto, or_else}
-use Rattle.oc_linking.specs.FirstFault.{Condition, first_broken, fault_of}
+use Rattle.std.specs.{Prelude.{not, ◌&&◌, ◌||◌, nat_lt, is_some, if◌then◌else◌}, List.{range_with_len}}
+use Rattle.std.proofs.lemmas.{Bool.{eqb-true, true≢false, and_parts, not-false}, Bool.Decides.{nat_tests}}
+use Rattle.oc_base.specs.{declared.code.Code.TheVariants.{BadAlign, AlignRange, BadTable, Group}, declared.fault.Fault.{Fault}, declared.format.Word.{Word}}
+use Rattle.oc_base.specs.declared.format.Word.TheVariants.{W32, W64}
+use Rattle.oc_linking.specs.{Numbers.{first_upto, or_else}, FirstFault.{Condition, first_broken, fault_of}}
 use Rattle.oc_neutral.specs.Building.{is_zero}
-use Rattle.oc_shelf.specs.Reading.Sums.{sum_upto}
-use Rattle.oc_shelf.specs.Reading.Slots.{AreSlots}
-use Rattle.oc_shelf.specs.Reading.Firsts.{any_upto}
+use Rattle.oc_shelf.specs.{Reading.Sums.{sum_upto}, Reading.Slots.{AreSlots}, Reading.Firsts.{any_upto}}
 use Rattle.oc_shelf.proofs.ReadingLaws.StageLemmas.{all_hold, implied, clean_both, clean_more, broken_of_three, first_broken-append, sum_more}
-use Rattle.oc_shelf.proofs.ReadingLaws.FirstsLemmas.{first_more, keyed_more, keyed_none}
-use Rattle.oc_shelf.proofs.ReadingLaws.SlotLemmas.{slots_same, slots_filled}
-use Rattle.oc_elf.specs.declared.constants.TheConstants.{SHT_SYMTAB, SHT_SYMTAB_SHNDX, SHT_GROUP, GRP_COMDAT}
-use Rattle.oc_elf.specs.declared.shdr.Shdr.{Shdr}
-use Rattle.oc_elf.specs.Shdr.{null_shdr}
-use Rattle.oc_elf.specs.Names.{name_in}
-use Rattle.oc_elf.specs.Frames.{FileFrame, shdr_count, header_at, header_place, framed, headers_of, header_of}
-use Rattle.oc_elf.specs.Laid.{IsFrame}
-use Rattle.oc_elf.specs.Classes.{reloc_type, word_of}
-use Rattle.oc_elf.specs.Groups.{owner_among, member_count, group_word}
+use Rattle.oc_shelf.proofs.{ReadingLaws.FirstsLemmas.{first_more, keyed_more, keyed_none}, ReadingLaws.SlotLemmas.{slots_same, slots_filled}}
+use Rattle.oc_elf.specs.{declared.constants.TheConstants.{SHT_SYMTAB, SHT_SYMTAB_SHNDX, SHT_GROUP, GRP_COMDAT}, declared.shdr.Shdr.{Shdr}, Shdr.{null_shdr}}
+use Rattle.oc_elf.specs.{Names.{name_in}, Frames.{FileFrame, shdr_count, header_at, header_place, framed, headers_of, header_of}, Laid.{IsFrame}}
+use Rattle.oc_elf.specs.{Classes.{reloc_type, word_of}, Groups.{owner_among, member_count, group_word}}
 use Rattle.oc_elf.specs.Sections.{is_type, is_carried, kind_of, relocated_by, table_among, symtab_among}
 use Rattle.oc_elf.specs.SectionRules.{has_bytes, is_left_out, form_conditions, is_good_shndx, is_good_symtab, is_good_table, table_conditions, is_alignment, size_counted, bytes_counted, sum_with, section_fault, limits_by, is_good_group, is_bad_member, group_conditions, carried_conditions, conditions_on, section_conditions, section_stage}
-use Rattle.oc_base.specs.declared.format.Word.{Word}
-use Rattle.oc_base.specs.declared.format.Word.TheVariants.{W32, W64}
 
 -- a carried section is aligned, and passes no limit
 pub record IsCounted (f : FileFrame) (k : ℕ) (s : Shdr) : Type 0 where

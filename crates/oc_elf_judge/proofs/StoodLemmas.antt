@@ -1,14 +1,10 @@
 -- Keys of groups, looked through one after the other.
 use Rattle.std.proofs.Common.{◌≡◌, ℕ, ◌+◌, Bool, true, false, cond, List, Option, None, Some, refl, sym, ◌∙◌, ap, is_some}
-use Rattle.std.specs.Prelude.{◌||◌, bytes_eq}
-use Rattle.std.specs.BTreeMap.{BTreeMap}
-use Rattle.std.specs.Map.{update}
-use Rattle.std.specs.Option.{option_and_then, option_map, option_map_or}
+use Rattle.std.specs.{Prelude.{◌||◌, bytes_eq}, BTreeMap.{BTreeMap}, Map.{update}, Option.{option_and_then, option_map, option_map_or}}
 use Rattle.std.proofs.lemmas.Slice.Eq.{bytes_eq-Decides}
 use denote.Ref.{Bor}
 use Rattle.oc_linking.specs.Numbers.{or_else}
-use Rattle.oc_strings.specs.declared.repeats.Repeat.{Repeat}
-use Rattle.oc_strings.specs.Repeats.{NameList, name_at, place_of, repeat_at}
+use Rattle.oc_strings.specs.{declared.repeats.Repeat.{Repeat}, Repeats.{NameList, name_at, place_of, repeat_at}}
 use Rattle.oc_shelf.proofs.ReadingLaws.FirstsLemmas.{first_more}
 use Rattle.oc_elf_judge.specs.Stood.{HaveStood, value_at}
 

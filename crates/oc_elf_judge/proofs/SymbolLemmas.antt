@@ -1,27 +1,18 @@
 -- Symbols, judged one after the other.
 use Rattle.std.proofs.Common.{◌≡◌, ℕ, ◌+◌, ◌<◌, inl, inr, true, false, cond, eqb, List, [], ◌∷◌, ◌++◌, map, Option, None, Some, refl, sym, ◌∙◌, ap, arith}
-use Rattle.std.specs.Prelude.{Bool, is_some, nat_eq, nat_lt, not, MatchOption}
-use Rattle.std.specs.List.{range_with_len}
-use Rattle.std.specs.Option.{option_map, option_and_then, option_copied}
-use Rattle.std.proofs.lemmas.Bool.{ne_eqb, true≢false}
-use Rattle.std.proofs.lemmas.Bool.{cases_eq}
-use Rattle.std.proofs.lemmas.List.{map-append}
-use Rattle.std.proofs.lemmas.List.FromFn.{length-map-range_with_len, map-range_with_len_more}
+use Rattle.std.specs.{Prelude.{Bool, is_some, nat_eq, nat_lt, not, MatchOption}, List.{range_with_len}, Option.{option_map, option_and_then, option_copied}}
+use Rattle.std.proofs.lemmas.{Bool.{ne_eqb, true≢false}, Bool.{cases_eq}, List.{map-append}, List.FromFn.{length-map-range_with_len, map-range_with_len_more}}
 use Rattle.std.proofs.lemmas.Option.{none-some}
 use denote.Ref.{Bor}
 use Rattle.oc_base.specs.declared.fault.Fault.{Fault}
-use Rattle.oc_linking.specs.Numbers.{first_upto, or_else}
-use Rattle.oc_linking.specs.FirstFault.{first_broken, fault_of, stage_fault}
+use Rattle.oc_linking.specs.{Numbers.{first_upto, or_else}, FirstFault.{first_broken, fault_of, stage_fault}}
 use Rattle.oc_linking.proofs.FirstFaultLaws.{first_upto_none}
-use Rattle.oc_strings.specs.declared.repeats.Repeat.{Repeat}
-use Rattle.oc_strings.specs.Repeats.{NameList, name_at, names_of, place_of, repeat_at, first_repeat}
+use Rattle.oc_strings.specs.{declared.repeats.Repeat.{Repeat}, Repeats.{NameList, name_at, names_of, place_of, repeat_at, first_repeat}}
 use Rattle.oc_shelf.proofs.ReadingLaws.StageLemmas.{all_hold, clean_at, clean_both, first_broken-append}
-use Rattle.oc_elf.specs.Frames.{FileFrame}
-use Rattle.oc_elf.specs.Entries.{is_local_entry}
-use Rattle.oc_elf.specs.Tables.{symbol_count, symbol_place, symtab_of, entry_of}
-use Rattle.oc_elf_judge.specs.Known.{AreLocalsFirst}
+use Rattle.oc_elf.specs.{Frames.{FileFrame}, Entries.{is_local_entry}, Tables.{symbol_count, symbol_place, symtab_of, entry_of}}
 use Rattle.oc_elf.specs.SymbolRules.{agree, kind_conditions, value_conditions, entry_conditions, other_conditions, symbol_conditions, symbol_stage, public_names, public_name, ends_at}
 use Rattle.oc_elf.specs.declared.sym.Sym.{Sym}
+use Rattle.oc_elf_judge.specs.Known.{AreLocalsFirst}
 use Rattle.oc_shows.proofs.RepeatLaws as laws
 
 pub entry_broken : (f : FileFrame) (k place : ℕ) (s : Sym) → first_broken (entry_conditions f k place s) ≡ or_else (first_broken (kind_conditions f k place s)) (first_broken (value_conditions f k place s))

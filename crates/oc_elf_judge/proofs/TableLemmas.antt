@@ -1,28 +1,16 @@
 -- Where the tables and groups of a file stand whose section headers have no fault.
 use Rattle.std.proofs.Common.{◌≡◌, ℕ, zero, suc, ◌+◌, ◌*◌, ◌/◌, ◌<◌, ◌≤◌, inl, inr, Bool, true, false, cond, eqb, List, [], ◌∷◌, length, Option, None, Some, refl, sym, ◌∙◌, ap, subst, arith}
-use Rattle.std.specs.Prelude.{not, nat_lt, nat_le, is_some}
-use Rattle.std.specs.Option.{unwrap_or, option_map_or}
-use Rattle.std.proofs.lemmas.Bool.{eqb-true, true≢false, and_parts}
-use Rattle.std.proofs.lemmas.Bool.{cases_lt}
-use Rattle.std.proofs.lemmas.Bool.Decides.{nat_tests}
-use Rattle.std.proofs.lemmas.Option.{none-some, same_Some}
+use Rattle.std.specs.{Prelude.{not, nat_lt, nat_le, is_some}, Option.{unwrap_or, option_map_or}}
+use Rattle.std.proofs.lemmas.{Bool.{eqb-true, true≢false, and_parts}, Bool.{cases_lt}, Bool.Decides.{nat_tests}, Option.{none-some, same_Some}}
 use Rattle.oc_linking.specs.FirstFault.{fault_of, stage_fault}
 use Rattle.oc_linking.proofs.Upto.{first_upto_from, first_upto_stop}
-use Rattle.oc_shelf.proofs.ReadingLaws.FirstsLemmas.{keyed_from}
-use Rattle.oc_shelf.proofs.ReadingLaws.StageLemmas.{clean_at}
-use Rattle.oc_elf.specs.declared.constants.TheConstants.{SHT_SYMTAB, SHT_SYMTAB_SHNDX, SHT_GROUP}
-use Rattle.oc_elf.specs.declared.shdr.Shdr.{Shdr}
-use Rattle.oc_elf.specs.Classes.{reloc_type, word_of}
-use Rattle.oc_elf.specs.Frames.{FileFrame, header_at}
+use Rattle.oc_shelf.proofs.{ReadingLaws.FirstsLemmas.{keyed_from}, ReadingLaws.StageLemmas.{clean_at}}
+use Rattle.oc_elf.specs.{declared.constants.TheConstants.{SHT_SYMTAB, SHT_SYMTAB_SHNDX, SHT_GROUP}, declared.shdr.Shdr.{Shdr}, Classes.{reloc_type, word_of}}
+use Rattle.oc_elf.specs.{Frames.{FileFrame, header_at}, Laid.{IsFrame}, Sections.{is_carried, is_type, relocated_by, shndx_number, symtab_among, table_among}}
+use Rattle.oc_elf.specs.{SectionRules.{has_bytes, is_good_group, is_good_shndx, is_good_symtab, section_stage}, Shdr.{null_shdr}}
+use Rattle.oc_elf.specs.{Tables.{entry_count, shndx_of, symbol_count, symtab_of}, Sym.{sym_size}}
 use Rattle.oc_elf_judge.specs.Known.{IsSymtab, IsTable, AreSigned}
-use Rattle.oc_elf.specs.Laid.{IsFrame}
-use Rattle.oc_elf.specs.Sections.{is_carried, is_type, relocated_by, shndx_number, symtab_among, table_among}
-use Rattle.oc_elf.specs.SectionRules.{has_bytes, is_good_group, is_good_shndx, is_good_symtab, section_stage}
-use Rattle.oc_elf.specs.Shdr.{null_shdr}
-use Rattle.oc_elf.specs.Tables.{entry_count, shndx_of, symbol_count, symtab_of}
-use Rattle.oc_elf.specs.Sym.{sym_size}
-use Rattle.oc_base.specs.declared.format.Word.{Word}
-use Rattle.oc_base.specs.declared.format.Word.TheVariants.{W32, W64}
+use Rattle.oc_base.specs.{declared.format.Word.{Word}, declared.format.Word.TheVariants.{W32, W64}}
 use Rattle.oc_elf_judge.proofs.SectionLemmas.{IsSound, here, null_first, sound_at}
 
 table_bytes : (w : Word) (s : Shdr) → is_type (reloc_type w) s ≡ true → has_bytes s ≡ true

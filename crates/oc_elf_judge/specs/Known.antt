@@ -1,20 +1,12 @@
 -- What is known of the tables of a file whose section headers have no fault (our profile).
 use Rattle.std.specs.Prelude.{◌≡◌, ℕ, ◌+◌, ◌*◌, ◌<◌, ◌≤◌, ◌^◌, Bool, not, ◌&&◌, ◌||◌, nat_eq, nat_lt, is_some, List, length, Option, Some, true, false}
-use Rattle.oc_linking.specs.declared.terms.Base.{Base}
-use Rattle.oc_linking.specs.declared.terms.Base.TheVariants.{Address}
+use Rattle.oc_linking.specs.{declared.terms.Base.{Base}, declared.terms.Base.TheVariants.{Address}}
 use Rattle.oc_neutral.specs.Rows.{same_base}
-use Rattle.oc_shelf.specs.Reading.Slots.{AreSlots}
-use Rattle.oc_shelf.specs.Reading.Bitmaps.{AreBytesOf, room}
-use Rattle.oc_elf.specs.RelocRules.{span_of, stored_size}
-use Rattle.oc_elf.specs.declared.constants.TheConstants.{SHN_COMMON, SHT_SYMTAB_SHNDX, SHNDX_SIZE}
-use Rattle.oc_elf.specs.declared.shdr.Shdr.{Shdr}
-use Rattle.oc_elf.specs.declared.sym.Sym.{Sym}
-use Rattle.oc_elf.specs.Frames.{FileFrame, header_at}
-use Rattle.oc_elf.specs.Groups.{is_comdat, owner_among}
-use Rattle.oc_elf.specs.Sections.{is_type, symtab_among, table_among}
-use Rattle.oc_elf.specs.Entries.{is_local_entry}
-use Rattle.oc_elf.specs.Tables.{entry_of, shndx_of, symtab_of, symbol_count, table_of}
-use Rattle.oc_elf.specs.CarriedSections.{position_of}
+use Rattle.oc_shelf.specs.{Reading.Slots.{AreSlots}, Reading.Bitmaps.{AreBytesOf, room}}
+use Rattle.oc_elf.specs.{RelocRules.{span_of, stored_size}, declared.constants.TheConstants.{SHN_COMMON, SHT_SYMTAB_SHNDX, SHNDX_SIZE}}
+use Rattle.oc_elf.specs.{declared.shdr.Shdr.{Shdr}, declared.sym.Sym.{Sym}, Frames.{FileFrame, header_at}, Groups.{is_comdat, owner_among}}
+use Rattle.oc_elf.specs.{Sections.{is_type, symtab_among, table_among}, Entries.{is_local_entry}}
+use Rattle.oc_elf.specs.{Tables.{entry_of, shndx_of, symtab_of, symbol_count, table_of}, CarriedSections.{position_of}}
 use Rattle.oc_elf.specs.CarriedSymbols.{home_of, symbol_position}
 
 -- the header is that of the symbol table, which lies in the file

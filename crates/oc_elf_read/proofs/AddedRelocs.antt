@@ -1,47 +1,25 @@
 -- The relocations of a file without faults, added one after the other.
 use Rattle.std.proofs.Common.{◌≡◌, ℕ, ◌+◌, ◌<◌, ◌≤◌, Bool, true, false, cond, List, [], ◌∷◌, Some, refl, sym, ◌∙◌, ap, subst, arith}
-use Rattle.std.specs.Prelude.{◌&&◌, ◌||◌, not, nat_eq}
-use Rattle.std.specs.List.{AllByRecursion}
-use Rattle.std.specs.Option.{option_map, option_and_then}
-use Rattle.std.proofs.lemmas.Bool.{true≢false}
-use Rattle.std.proofs.lemmas.List.{length-map}
-use Rattle.std.proofs.lemmas.Option.{none-some, same_Some, slice_get-map, slice_get_within}
-use Rattle.oc_linking.specs.declared.terms.Binding.{Binding}
-use Rattle.oc_linking.specs.declared.terms.Binding.TheVariants.{Local, Global, Undefined, Common, Weak}
-use Rattle.oc_linking.specs.declared.terms.Keep.{Keep}
-use Rattle.oc_linking.specs.declared.terms.Kind.{Kind}
-use Rattle.oc_linking.specs.declared.terms.Kind.TheVariants.{Code, ReadOnly, Data, Zero, Init, Fini, Debug, Exception, Note}
+use Rattle.std.specs.{Prelude.{◌&&◌, ◌||◌, not, nat_eq}, List.{AllByRecursion}, Option.{option_map, option_and_then}}
+use Rattle.std.proofs.lemmas.{Bool.{true≢false}, List.{length-map}, Option.{none-some, same_Some, slice_get-map, slice_get_within}}
+use Rattle.oc_linking.specs.{declared.terms.Binding.{Binding}, declared.terms.Binding.TheVariants.{Local, Global, Undefined, Common, Weak}}
+use Rattle.oc_linking.specs.{declared.terms.Keep.{Keep}, declared.terms.Kind.{Kind}}
+use Rattle.oc_linking.specs.{declared.terms.Kind.TheVariants.{Code, ReadOnly, Data, Zero, Init, Fini, Debug, Exception, Note}, Fits.{bytes_of}}
 use Rattle.oc_linking.specs.declared.terms.Value.TheVariants as value
-use Rattle.oc_linking.specs.Fits.{bytes_of}
 use Rattle.oc_linking.specs.Parts as parts
 use Rattle.oc_neutral.specs.declared.elf.TheConstants.{SHT_NOTE, SHT_NOBITS, SHT_INIT_ARRAY, SHT_FINI_ARRAY, SHT_X86_64_UNWIND, SHF_WRITE, SHF_ALLOC, SHF_EXECINSTR}
-use Rattle.oc_neutral.specs.declared.reloc.Target.{Target}
-use Rattle.oc_neutral.specs.declared.reloc.Target.TheVariants as target
-use Rattle.oc_neutral.specs.declared.symbol.Symbol.{Symbol}
-use Rattle.oc_neutral.specs.Building.{Draft, is_zero}
-use Rattle.oc_shows.specs.Built.{IsStarted}
-use Rattle.oc_shows.specs.Computed.{computed_symbol, placed_binding}
-use Rattle.oc_neutral.specs.Elf.Kinds.{elf_kind, is_debug_name, is_unwind_name}
-use Rattle.oc_neutral.specs.Invariants.{CanAdd, IsLessThere, IsTargetThere}
-use Rattle.oc_neutral.specs.KindRules.{first_rule, has}
+use Rattle.oc_neutral.specs.{declared.reloc.Target.{Target}, declared.symbol.Symbol.{Symbol}, Building.{Draft, is_zero}}
+use Rattle.oc_neutral.specs.{Elf.Kinds.{elf_kind, is_debug_name, is_unwind_name}, Invariants.{CanAdd, IsLessThere, IsTargetThere}, KindRules.{first_rule, has}}
 use Rattle.oc_neutral.specs.Normal.{Place, local_place, place_among}
 use Rattle.oc_neutral.specs.Rows.{Row, Taken, TakesZero, TakesPlace, TakesGotBase, TakesImageBase, TakesHome, TakesSection, less_of, same_taken}
-use Rattle.oc_shows.specs.Started.{stored_section}
-use Rattle.oc_elf_read.specs.Built.{keys_of, symboled}
-use Rattle.oc_elf.specs.CarriedSections.{section_with, sections_of}
-use Rattle.oc_elf.specs.CarriedSymbols.{symbols_of}
-use Rattle.oc_elf.specs.Elf.{elf_dialect}
-use Rattle.oc_elf.specs.Frames.{FileFrame, header_at}
-use Rattle.oc_elf_read.specs.Given.{given_at}
-use Rattle.oc_elf.specs.Laid.{IsFrame}
-use Rattle.oc_elf.specs.Sections.{is_type, section_name}
-use Rattle.oc_elf.specs.Tables.{reloc_of, symbol_count}
-use Rattle.oc_elf_read.proofs.AimedFields.{IsAim, local_below}
-use Rattle.oc_elf_read.proofs.CarriedLemmas.{IsHere, kind_here, number_here, section_here}
-use Rattle.oc_elf_read.proofs.FoundFields.{IsClean}
-use Rattle.oc_elf_read.proofs.RowLemmas.{IsRow, is_row}
+use Rattle.oc_neutral.specs.declared.reloc.Target.TheVariants as target
+use Rattle.oc_shows.specs.{Built.{IsStarted}, Computed.{computed_symbol, placed_binding}, Started.{stored_section}}
+use Rattle.oc_elf_read.specs.{Built.{keys_of, symboled}, Given.{given_at}}
+use Rattle.oc_elf.specs.{CarriedSections.{section_with, sections_of}, CarriedSymbols.{symbols_of}, Elf.{elf_dialect}, Frames.{FileFrame, header_at}}
+use Rattle.oc_elf.specs.{Laid.{IsFrame}, Sections.{is_type, section_name}, Tables.{reloc_of, symbol_count}}
+use Rattle.oc_elf_read.proofs.{AimedFields.{IsAim, local_below}, CarriedLemmas.{IsHere, kind_here, number_here, section_here}, FoundFields.{IsClean}}
+use Rattle.oc_elf_read.proofs.{RowLemmas.{IsRow, is_row}, StandingFields.{IsStanding, are_apart, are_of_file, differences_fit, given_standing}}
 use Rattle.oc_elf_judge.proofs.SectionLemmas.{here}
-use Rattle.oc_elf_read.proofs.StandingFields.{IsStanding, are_apart, are_of_file, differences_fit, given_standing}
 use Rattle.oc_shows.proofs.AddedLaws.{AreAddable}
 
 -- ... what can be added

@@ -1,41 +1,25 @@
 -- Symbols, added one after the other.
 use Rattle.std.proofs.Common.{◌≡◌, ℕ, ◌+◌, ◌<◌, Bool, true, false, cond, eqb, List, [], ◌∷◌, map, Option, None, Some, Ok, refl, sym, ◌∙◌, ap, arith}
-use Rattle.std.specs.Prelude.{◌||◌, nat_eq, is_some, slice_get}
-use Rattle.std.specs.Option.{option_flatten, option_map}
-use Rattle.std.proofs.lemmas.Bool.{true≢false}
-use Rattle.std.proofs.lemmas.List.{map-append}
-use Rattle.std.proofs.lemmas.List.FromFn.{length-map-range_with_len, get_or-map-range_with_len}
+use Rattle.std.specs.{Prelude.{◌||◌, nat_eq, is_some, slice_get}, Option.{option_flatten, option_map}}
+use Rattle.std.proofs.lemmas.{Bool.{true≢false}, List.{map-append}, List.FromFn.{length-map-range_with_len, get_or-map-range_with_len}}
 use Rattle.std.proofs.lemmas.Option.{none-some, same_Some, slice_get-get_or}
-use Rattle.oc_linking.specs.declared.terms.Binding.{Binding}
-use Rattle.oc_linking.specs.declared.terms.Binding.TheVariants.{Local, Global, Undefined, Common, Weak}
+use Rattle.oc_linking.specs.{declared.terms.Binding.{Binding}, declared.terms.Binding.TheVariants.{Local, Global, Undefined, Common, Weak}}
+use Rattle.oc_linking.specs.{declared.terms.Value.{Value}, FirstFault.{fault_of, stage_fault}, Parts.{is_local}}
 use Rattle.oc_linking.specs.declared.terms.Fallback.TheVariants as fallback
-use Rattle.oc_linking.specs.declared.terms.Value.{Value}
 use Rattle.oc_linking.specs.declared.terms.Value.TheVariants as value
-use Rattle.oc_linking.specs.FirstFault.{fault_of, stage_fault}
 use Rattle.oc_linking.specs.Parts as parts
-use Rattle.oc_linking.specs.Parts.{is_local}
-use Rattle.oc_neutral.specs.declared.symbol.Symbol.{Symbol}
-use Rattle.oc_neutral.specs.Building.{Draft, symbol_added}
-use Rattle.oc_shows.specs.Computed.{computed_symbol, placed_binding}
-use Rattle.oc_neutral.specs.Keeping.{is_again}
+use Rattle.oc_neutral.specs.{declared.symbol.Symbol.{Symbol}, Building.{Draft, symbol_added}, Keeping.{is_again}}
+use Rattle.oc_shows.specs.{Computed.{computed_symbol, placed_binding}, Started.{groups_by, plain_draft, stored_section}}
 use Rattle.oc_strings.specs.Repeats.{name_at, repeat_at}
-use Rattle.oc_shows.specs.Started.{groups_by, plain_draft, stored_section}
-use Rattle.oc_shows.proofs.BuiltSteps.{name_is_new}
-use Rattle.oc_shows.proofs.StartedLaws.{symbol_more}
+use Rattle.oc_shows.proofs.{BuiltSteps.{name_is_new}, StartedLaws.{symbol_more}}
 use Rattle.oc_shelf.specs.Reading.Collected.{collected}
-use Rattle.oc_shelf.proofs.ReadingLaws.CollectedLemmas.{IsFrom, collected-some, collected-from}
-use Rattle.oc_shelf.proofs.ReadingLaws.StageLemmas.{clean_at}
-use Rattle.oc_elf.specs.declared.constants.TheConstants.{SHN_UNDEF, SHN_COMMON, STB_WEAK}
-use Rattle.oc_elf.specs.declared.sym.Sym.{Sym}
-use Rattle.oc_elf.specs.Sym.{bind_of}
-use Rattle.oc_elf_read.specs.Built.{keys_of, symboled, symbol_as}
+use Rattle.oc_shelf.proofs.{ReadingLaws.CollectedLemmas.{IsFrom, collected-some, collected-from}, ReadingLaws.StageLemmas.{clean_at}}
+use Rattle.oc_elf.specs.{declared.constants.TheConstants.{SHN_UNDEF, SHN_COMMON, STB_WEAK}, declared.sym.Sym.{Sym}, Sym.{bind_of}}
 use Rattle.oc_elf.specs.CarriedSections.{sections_of}
 use Rattle.oc_elf.specs.CarriedSymbols.{binding_of, defined_as, is_passed, public_binding, symbol_by, symbol_of, symbol_with, symbols_of, value_of}
-use Rattle.oc_elf.specs.Classes.{format_of}
-use Rattle.oc_elf.specs.Entries.{is_local_entry, name_of}
-use Rattle.oc_elf.specs.Frames.{FileFrame}
-use Rattle.oc_elf.specs.SymbolRules.{public_name, public_names, symbol_stage}
+use Rattle.oc_elf.specs.{Classes.{format_of}, Entries.{is_local_entry, name_of}, Frames.{FileFrame}, SymbolRules.{public_name, public_names, symbol_stage}}
 use Rattle.oc_elf.specs.Tables.{entry_of, symbol_count}
+use Rattle.oc_elf_read.specs.Built.{keys_of, symboled, symbol_as}
 use Rattle.oc_elf_read.proofs.KeyLemmas.{differs}
 use Rattle.oc_elf_judge.proofs.SymbolLemmas.{no_repeat}
 

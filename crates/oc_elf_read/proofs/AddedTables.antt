@@ -1,46 +1,23 @@
 -- What is given, table by table and entry by entry.
 use Rattle.std.proofs.Common.{◌≡◌, ℕ, ◌+◌, ◌^◌, ◌<◌, ◌≤◌, inl, inr, Bool, true, false, cond, List, length, take, Option, None, Some, refl, sym, ◌∙◌, ap, subst, arith, get_or}
-use Rattle.std.specs.Prelude.{◌&&◌, nat_lt, slice_get, is_some}
-use Rattle.std.specs.List.Sorted.{IsPermutation}
-use Rattle.std.specs.Option.{option_map_or, option_and_then}
-use Rattle.std.proofs.lemmas.Bool.{cases_eq, cases_lt, true≢false, and_parts}
-use Rattle.std.proofs.lemmas.Bool.Decides.{nat_tests}
-use Rattle.std.proofs.lemmas.Option.{same_Some}
-use Rattle.oc_linking.specs.declared.terms.Keep.{Keep}
-use Rattle.oc_linking.specs.Keeping.{keeps}
-use Rattle.oc_linking.specs.Numbers.{first_upto}
+use Rattle.std.specs.{Prelude.{◌&&◌, nat_lt, slice_get, is_some}, List.Sorted.{IsPermutation}, Option.{option_map_or, option_and_then}}
+use Rattle.std.proofs.lemmas.{Bool.{cases_eq, cases_lt, true≢false, and_parts}, Bool.Decides.{nat_tests}, Option.{same_Some}}
+use Rattle.oc_linking.specs.{declared.terms.Keep.{Keep}, Keeping.{keeps}, Numbers.{first_upto}}
 use Rattle.oc_linking.specs.Parts as parts
-use Rattle.oc_neutral.specs.declared.reloc.Reloc.{Reloc}
-use Rattle.oc_neutral.specs.declared.elf.TheConstants.{SHT_NOBITS}
-use Rattle.oc_neutral.specs.Building.{Draft}
+use Rattle.oc_neutral.specs.{declared.reloc.Reloc.{Reloc}, declared.elf.TheConstants.{SHT_NOBITS}, Building.{Draft}}
 use Rattle.oc_shows.specs.Built.{HasAdded, IsStarted}
-use Rattle.oc_shelf.specs.declared.reading.order.PlacedEntry.{PlacedEntry}
-use Rattle.oc_shelf.specs.Reading.Collected.{collected}
-use Rattle.oc_shelf.proofs.ReadingLaws.CollectedLemmas.{collected-at}
-use Rattle.oc_elf.specs.declared.rel.Rel.{Rel}
-use Rattle.oc_elf_read.specs.Built.{IsPlaced, symboled}
-use Rattle.oc_elf.specs.CarriedSections.{position_of, section_of, section_with, sections_of}
-use Rattle.oc_elf.specs.Elf.{elf_dialect}
-use Rattle.oc_elf.specs.Fields.{is_idle, rel_at, width_of}
-use Rattle.oc_elf.specs.Frames.{FileFrame}
-use Rattle.oc_elf_read.specs.Given.{given_at, given_before, given_with, is_before, placed, reloc_by}
-use Rattle.oc_elf.specs.Laid.{IsFrame}
-use Rattle.oc_elf.specs.RelocRules.{entry_fault, is_kept_section}
-use Rattle.oc_elf.specs.Sections.{contents_of, is_carried, is_type, kind_of}
-use Rattle.oc_elf.specs.Tables.{reloc_count, reloc_of, symbol_count}
-use Rattle.oc_elf_read.proofs.AddedRelocs.{Standing, addable}
-use Rattle.oc_elf_read.proofs.ApartEntries.{differ_at, fit_at}
-use Rattle.oc_elf_read.proofs.BuildLemmas.{length-contents, placed_at}
+use Rattle.oc_shelf.specs.{declared.reading.order.PlacedEntry.{PlacedEntry}, Reading.Collected.{collected}, Reading.Order.{is_among}}
+use Rattle.oc_shelf.proofs.{ReadingLaws.CollectedLemmas.{collected-at}, ReadingLaws.PlacedLemmas.{among_all, not_among}}
+use Rattle.oc_elf.specs.{declared.rel.Rel.{Rel}, CarriedSections.{position_of, section_of, section_with, sections_of}, Elf.{elf_dialect}}
+use Rattle.oc_elf.specs.{Fields.{is_idle, rel_at, width_of}, Frames.{FileFrame}, Laid.{IsFrame}, RelocRules.{entry_fault, is_kept_section}}
+use Rattle.oc_elf.specs.{Sections.{contents_of, is_carried, is_type, kind_of}, Tables.{reloc_count, reloc_of, symbol_count}}
+use Rattle.oc_elf_read.specs.{Built.{IsPlaced, symboled}, Given.{given_at, given_before, given_with, is_before, placed, reloc_by}}
+use Rattle.oc_elf_read.proofs.{AddedRelocs.{Standing, addable}, ApartEntries.{differ_at, fit_at}, BuildLemmas.{length-contents, placed_at}}
 use Rattle.oc_elf_read.proofs.CarriedLemmas.{IsHere, kind_here, number_here, section_here}
 use Rattle.oc_elf_read.proofs.FoundFields.{IsClean, IsEntry, entries_clean, entry_found, entry_there}
-use Rattle.oc_elf_judge.proofs.PlaceLemmas.{section_some}
-use Rattle.oc_elf_read.proofs.PlacedEntries.{IsPlacedEntry, differ, placed_at as entry_placed, placed_some}
-use Rattle.oc_elf_judge.proofs.RelocLemmas.{IsGood, field_inside, nameable_there}
-use Rattle.oc_elf_judge.proofs.SectionLemmas.{here}
-use Rattle.oc_elf_read.proofs.StandingFields.{given_standing, stands}
+use Rattle.oc_elf_read.proofs.{PlacedEntries.{IsPlacedEntry, differ, placed_at as entry_placed, placed_some}, StandingFields.{given_standing, stands}}
+use Rattle.oc_elf_judge.proofs.{PlaceLemmas.{section_some}, RelocLemmas.{IsGood, field_inside, nameable_there}, SectionLemmas.{here}}
 use Rattle.oc_shows.proofs.AddedLaws.{IsTaken, entry_taken, lt_next, lt_self, lt_stays, table_done as all_done}
-use Rattle.oc_shelf.proofs.ReadingLaws.PlacedLemmas.{among_all, not_among}
-use Rattle.oc_shelf.specs.Reading.Order.{is_among}
 
 -- the first entry at the offset of an entry is that entry
 rel_is : (f : FileFrame) (i k : ℕ) → first_upto (entry_fault f i) (reloc_count f i) ≡ None → k < reloc_count f i → is_idle (reloc_of f i k) ≡ false → rel_at f i (reloc_of f i k).r_offset ≡ Some (reloc_of f i k)

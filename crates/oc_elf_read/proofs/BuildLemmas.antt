@@ -1,33 +1,20 @@
 -- The groups and sections of a file without faults, added one after the other.
 use Rattle.std.proofs.Common.{◌≡◌, ℕ, zero, suc, ◌+◌, ◌<◌, ◌≤◌, inl, inr, true, false, cond, List, [], ◌∷◌, ◌++◌, length, map, take, drop, replicate, Option, None, Some, Ok, refl, sym, ◌∙◌, ap, subst, arith, length-take, length-drop}
-use Rattle.std.specs.Prelude.{not, ◌&&◌, ◌||◌}
-use Rattle.std.specs.Option.{option_map_or}
-use Rattle.std.proofs.lemmas.Bool.{eqb-true, true≢false}
-use Rattle.std.proofs.lemmas.List.{length-map}
+use Rattle.std.specs.{Prelude.{not, ◌&&◌, ◌||◌}, Option.{option_map_or}}
+use Rattle.std.proofs.lemmas.{Bool.{eqb-true, true≢false}, List.{length-map}}
 use Rattle.oc_linking.specs.FirstFault.{fault_of, stage_fault}
 use Rattle.oc_linking.specs.Parts as parts
-use Rattle.oc_neutral.specs.declared.elf.TheConstants.{SHT_NOBITS}
-use Rattle.oc_neutral.specs.declared.section.Section.{Section}
-use Rattle.oc_neutral.specs.Building.{is_zero, limit_passed, section_added, size_sum, stored_size, stored_sum}
-use Rattle.oc_neutral.specs.Invariants.{HasItsBytes}
+use Rattle.oc_neutral.specs.{declared.elf.TheConstants.{SHT_NOBITS}, declared.section.Section.{Section}}
+use Rattle.oc_neutral.specs.{Building.{is_zero, limit_passed, section_added, size_sum, stored_size, stored_sum}, Invariants.{HasItsBytes}}
 use Rattle.oc_shows.specs.Started.{groups_by, plain_draft, stored_section}
-use Rattle.oc_shows.proofs.BuiltSteps.{within}
-use Rattle.oc_shows.proofs.StartedLaws.{section_more}
-use Rattle.oc_shelf.specs.Reading.Collected.{collected}
-use Rattle.oc_shelf.specs.Reading.Sums.{sum_upto}
-use Rattle.oc_shelf.proofs.ReadingLaws.CollectedLemmas.{collected-some, collected-none, collected-sum, length-collected}
-use Rattle.oc_shelf.proofs.ReadingLaws.StageLemmas.{clean_at}
-use Rattle.oc_elf.specs.declared.constants.TheConstants.{SHT_NULL}
-use Rattle.oc_elf.specs.declared.shdr.Shdr.{Shdr}
-use Rattle.oc_elf_read.specs.Built.{IsPlaced, keys_of, sectioned}
-use Rattle.oc_elf.specs.CarriedSections.{section_with, section_of}
-use Rattle.oc_elf.specs.Classes.{format_of}
-use Rattle.oc_elf.specs.Frames.{FileFrame}
-use Rattle.oc_elf.specs.Laid.{IsFrame}
-use Rattle.oc_elf.specs.Sections.{is_type, is_carried, kind_of, contents_of}
+use Rattle.oc_shows.proofs.{BuiltSteps.{within}, StartedLaws.{section_more}}
+use Rattle.oc_shelf.specs.{Reading.Collected.{collected}, Reading.Sums.{sum_upto}}
+use Rattle.oc_shelf.proofs.{ReadingLaws.CollectedLemmas.{collected-some, collected-none, collected-sum, length-collected}, ReadingLaws.StageLemmas.{clean_at}}
+use Rattle.oc_elf.specs.{declared.constants.TheConstants.{SHT_NULL}, declared.shdr.Shdr.{Shdr}, CarriedSections.{section_with, section_of}, Classes.{format_of}}
+use Rattle.oc_elf.specs.{Frames.{FileFrame}, Laid.{IsFrame}, Sections.{is_type, is_carried, kind_of, contents_of}}
 use Rattle.oc_elf.specs.SectionRules.{has_bytes, size_counted, bytes_counted, section_stage}
-use Rattle.oc_elf_judge.proofs.SectionLemmas.{IsSound, here, null_first, sound_at}
-use Rattle.oc_elf_judge.proofs.PlaceLemmas.{section_some, section_none}
+use Rattle.oc_elf_read.specs.Built.{IsPlaced, keys_of, sectioned}
+use Rattle.oc_elf_judge.proofs.{SectionLemmas.{IsSound, here, null_first, sound_at}, PlaceLemmas.{section_some, section_none}}
 use Rattle.oc_neutral.proofs.LeftObject.{sum_map}
 
 -- a carried section takes bytes of the file, where it is not NOBITS

@@ -1,35 +1,18 @@
 -- An object with a table of section numbers, and with one fault each, read by computing the definitions (gABI, "Sections" and "Symbol Table").
 use Rattle.std.proofs.Common.{◌≡◌, ℕ, List, [], ◌∷◌, map, Option, Some, None, refl}
 use Rattle.std.specs.Prelude.{codes, slice_set}
-use Rattle.oc_base.specs.declared.code.Code.{Code}
+use Rattle.oc_base.specs.{declared.code.Code.{Code}, declared.fault.Fault.{Fault}, declared.fault.Phase.{Phase}, Numbers.{number_at}}
 use Rattle.oc_base.specs.declared.code.Code.TheVariants as code
-use Rattle.oc_base.specs.declared.fault.Fault.{Fault}
-use Rattle.oc_base.specs.declared.fault.Phase.{Phase}
 use Rattle.oc_base.specs.declared.fault.Phase.TheVariants as phase
-use Rattle.oc_linking.specs.declared.terms.Value.TheVariants.{Place}
-use Rattle.oc_linking.specs.declared.terms.Binding.{Binding}
-use Rattle.oc_linking.specs.declared.terms.Binding.TheVariants.{Local, Global, Undefined}
-use Rattle.oc_linking.specs.Keeping.{all}
-use Rattle.oc_linking.specs.Parts.{Symbol}
-use Rattle.oc_base.specs.Numbers.{number_at}
+use Rattle.oc_linking.specs.{declared.terms.Value.TheVariants.{Place}, declared.terms.Binding.{Binding}}
+use Rattle.oc_linking.specs.{declared.terms.Binding.TheVariants.{Local, Global, Undefined}, Keeping.{all}, Parts.{Symbol}}
 use Rattle.oc_neutral.specs.Elf.Kinds.{elf_kind}
-use Rattle.oc_elf.specs.declared.class.ElfClass.TheVariants.{Class32, Big32}
-use Rattle.oc_elf.specs.CarriedSections.{section_of, section_with}
-use Rattle.oc_elf.specs.CarriedSymbols.{binding_of, is_passed, symbol_by, symbol_of, symbol_with, symbols_of}
-use Rattle.oc_elf.specs.Ehdr.{ehdr_in}
-use Rattle.oc_elf.specs.Elf.{fault_in}
-use Rattle.oc_elf.specs.Entries.{name_at}
-use Rattle.oc_elf.specs.Frames.{framed, header_of, headers_of}
-use Rattle.oc_elf.specs.Groups.{key_of}
-use Rattle.oc_elf.specs.Headers.{header_conditions}
-use Rattle.oc_elf.specs.Names.{name_in, table_bytes}
-use Rattle.oc_elf.specs.Rel.{rel_in}
-use Rattle.oc_elf.specs.RelocRules.{is_nameable, is_target_for, own_conditions, rel_conditions, reloc_conditions}
+use Rattle.oc_elf.specs.{declared.class.ElfClass.TheVariants.{Class32, Big32}, CarriedSections.{section_of, section_with}}
+use Rattle.oc_elf.specs.{CarriedSymbols.{binding_of, is_passed, symbol_by, symbol_of, symbol_with, symbols_of}, Ehdr.{ehdr_in}, Elf.{fault_in}}
+use Rattle.oc_elf.specs.{Entries.{name_at}, Frames.{framed, header_of, headers_of}, Groups.{key_of}, Headers.{header_conditions}, Names.{name_in, table_bytes}}
+use Rattle.oc_elf.specs.{Rel.{rel_in}, RelocRules.{is_nameable, is_target_for, own_conditions, rel_conditions, reloc_conditions}}
 use Rattle.oc_elf.specs.SectionRules.{carried_conditions, conditions_on, form_conditions, group_conditions, is_bad_member, is_good_group, is_good_shndx, is_good_symtab, is_good_table, is_left_out, section_conditions, table_conditions}
-use Rattle.oc_elf.specs.Shdr.{shdr_in}
-use Rattle.oc_elf.specs.Sym.{sym_in}
-use Rattle.oc_elf.specs.SymbolRules.{entry_conditions, is_odd_symbol, symbol_conditions}
-use Rattle.oc_elf.specs.Tables.{entry_of, reloc_of}
+use Rattle.oc_elf.specs.{Shdr.{shdr_in}, Sym.{sym_in}, SymbolRules.{entry_conditions, is_odd_symbol, symbol_conditions}, Tables.{entry_of, reloc_of}}
 use Rattle.oc_elf_read.proofs.Objects.{told}
 
 -- bytes of a file, each with its place, that are others

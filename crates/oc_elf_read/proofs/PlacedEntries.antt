@@ -3,14 +3,10 @@ use Rattle.std.proofs.Common.{◌≡◌, ℕ, ◌<◌, Bool, true, false, cond, 
 use Rattle.std.specs.List.Sorted.{IsPermutation}
 use Rattle.std.proofs.lemmas.Option.{none-some, same_Some}
 use Rattle.oc_linking.specs.Numbers.{first_upto}
-use Rattle.oc_shelf.specs.declared.reading.order.PlacedEntry.{PlacedEntry}
-use Rattle.oc_shelf.specs.Reading.Collected.{collected}
+use Rattle.oc_shelf.specs.{declared.reading.order.PlacedEntry.{PlacedEntry}, Reading.Collected.{collected}}
 use Rattle.oc_shelf.proofs.ReadingLaws.PlacedLemmas.{each_placed}
-use Rattle.oc_elf.specs.Fields.{is_idle}
-use Rattle.oc_elf.specs.Frames.{FileFrame}
+use Rattle.oc_elf.specs.{Fields.{is_idle}, Frames.{FileFrame}, RelocRules.{entry_fault}, Tables.{reloc_count, reloc_of}}
 use Rattle.oc_elf_read.specs.Given.{placed}
-use Rattle.oc_elf.specs.RelocRules.{entry_fault}
-use Rattle.oc_elf.specs.Tables.{reloc_count, reloc_of}
 use Rattle.oc_elf_read.proofs.ApartEntries.{differ_at}
 
 -- an entry that says something, with the offset of its field

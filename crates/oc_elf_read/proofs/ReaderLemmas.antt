@@ -1,28 +1,15 @@
 -- What is read of a file without faults.
 use Rattle.std.proofs.Common.{◌≡◌, ℕ, ◌≤◌, List, length, Option, None, subst}
 use Rattle.std.specs.Option.{unwrap_or}
-use Rattle.oc_linking.specs.declared.terms.Keep.{Keep}
-use Rattle.oc_linking.specs.FirstFault.{first_fault}
-use Rattle.oc_neutral.specs.Building.{Draft}
-use Rattle.oc_shows.specs.Built.{HasAdded, IsStarted}
-use Rattle.oc_neutral.specs.Invariants.{AreBytes, IsComplete, IsDraft}
-use Rattle.oc_neutral.specs.Objects.{Object}
-use Rattle.oc_shows.specs.Readable.{IsReadable}
-use Rattle.oc_shows.specs.Shows.{Shows}
+use Rattle.oc_linking.specs.{declared.terms.Keep.{Keep}, FirstFault.{first_fault}}
+use Rattle.oc_neutral.specs.{Building.{Draft}, Invariants.{AreBytes, IsComplete, IsDraft}, Objects.{Object}}
+use Rattle.oc_shows.specs.{Built.{HasAdded, IsStarted}, Readable.{IsReadable}, Shows.{Shows}}
 use Rattle.oc_shows.proofs.BuiltWhole.{built_is_complete, built_is_readable}
-use Rattle.oc_elf.specs.declared.class.ElfClass.{ElfClass}
-use Rattle.oc_elf_read.specs.Built.{symboled}
-use Rattle.oc_elf.specs.Elf.{elf_dialect, rest_stages}
-use Rattle.oc_elf.specs.Frames.{FileFrame, framed, header_at}
-use Rattle.oc_elf_read.specs.Given.{given_at}
+use Rattle.oc_elf.specs.{declared.class.ElfClass.{ElfClass}, Elf.{elf_dialect, rest_stages}, Frames.{FileFrame, framed, header_at}, Laid.{IsFrame}}
+use Rattle.oc_elf.specs.{Sections.{symtab_among}, Tables.{symbol_count}}
+use Rattle.oc_elf_read.specs.{Built.{symboled}, Given.{given_at}}
 use Rattle.oc_elf_judge.specs.Known.{IsSymtab}
-use Rattle.oc_elf.specs.Laid.{IsFrame}
-use Rattle.oc_elf.specs.Sections.{symtab_among}
-use Rattle.oc_elf.specs.Tables.{symbol_count}
-use Rattle.oc_elf_read.proofs.CompleteLemmas.{complete}
-use Rattle.oc_elf_read.proofs.FoundFields.{IsClean, stages_clean}
-use Rattle.oc_elf_read.proofs.ReadableLemmas.{readable}
-use Rattle.oc_elf_read.proofs.ShowableLemmas.{is_started}
+use Rattle.oc_elf_read.proofs.{CompleteLemmas.{complete}, FoundFields.{IsClean, stages_clean}, ReadableLemmas.{readable}, ShowableLemmas.{is_started}}
 use Rattle.oc_elf_read.proofs.ShownFile.{are_final, clean_is_shown, leaves_blanks}
 use Rattle.oc_elf_judge.proofs.TableLemmas.{symtab_is}
 

@@ -1,51 +1,26 @@
 -- A file without faults shows what is built of it, which can be finished and read.
 use Rattle.std.proofs.Common.{◌≡◌, ℕ, Bool, true, false, Option, None, Some, refl, sym, ◌∙◌, ap, subst, arith, get_or}
-use Rattle.std.specs.Prelude.{◌&&◌, ◌||◌, slice_get}
-use Rattle.std.specs.Option.{option_map, option_map_or}
-use Rattle.std.proofs.lemmas.Bool.{true≢false, and_parts}
-use Rattle.std.proofs.lemmas.Option.{same_Some, slice_get-map, slice_get_within, slice_get-get_or}
-use Rattle.oc_linking.specs.declared.terms.Base.{Base}
+use Rattle.std.specs.{Prelude.{◌&&◌, ◌||◌, slice_get}, Option.{option_map, option_map_or}}
+use Rattle.std.proofs.lemmas.{Bool.{true≢false, and_parts}, Option.{same_Some, slice_get-map, slice_get_within, slice_get-get_or}}
+use Rattle.oc_linking.specs.{declared.terms.Base.{Base}, declared.terms.Hint.TheVariants.{Plain, Call}, declared.terms.Keep.{Keep}}
+use Rattle.oc_linking.specs.{declared.terms.Width.{Width}, declared.terms.Width.TheVariants.{One, Two, Four, Eight}}
 use Rattle.oc_linking.specs.declared.terms.Base.TheVariants as base
-use Rattle.oc_linking.specs.declared.terms.Hint.TheVariants.{Plain, Call}
-use Rattle.oc_linking.specs.declared.terms.Keep.{Keep}
 use Rattle.oc_linking.specs.declared.terms.Less.TheVariants as less
-use Rattle.oc_linking.specs.declared.terms.Width.{Width}
-use Rattle.oc_linking.specs.declared.terms.Width.TheVariants.{One, Two, Four, Eight}
 use Rattle.oc_linking.specs.Parts as parts
-use Rattle.oc_neutral.specs.declared.elf.TheConstants.{SHT_NOBITS}
-use Rattle.oc_neutral.specs.declared.reloc.Reloc.{Reloc}
-use Rattle.oc_neutral.specs.declared.reloc.Target.{Target}
-use Rattle.oc_neutral.specs.declared.reloc.Target.TheVariants as target
-use Rattle.oc_neutral.specs.declared.section.Section.{Section}
-use Rattle.oc_neutral.specs.declared.symbol.Symbol.{Symbol}
-use Rattle.oc_shows.specs.Built.{IsStarted}
-use Rattle.oc_shows.specs.Computed.{computed_symbol}
-use Rattle.oc_neutral.specs.Elf.Kinds.{elf_tag, is_nobits_tag}
-use Rattle.oc_neutral.specs.Faces.{number_of}
-use Rattle.oc_shows.specs.Finished.{AreFinal, LeavesBlanks}
+use Rattle.oc_neutral.specs.{declared.elf.TheConstants.{SHT_NOBITS}, declared.reloc.Reloc.{Reloc}, declared.reloc.Target.{Target}}
+use Rattle.oc_neutral.specs.{declared.section.Section.{Section}, declared.symbol.Symbol.{Symbol}, Elf.Kinds.{elf_tag, is_nobits_tag}, Faces.{number_of}}
 use Rattle.oc_neutral.specs.Invariants.{IsHinted, NamesOriginal}
 use Rattle.oc_neutral.specs.Rows.{Row, Taken, TakesZero, TakesPlace, TakesGotBase, TakesImageBase, TakesHome, TakesSection, less_of, same_base, same_hint, same_taken, same_width}
-use Rattle.oc_shows.specs.Shows.{AreNumbered}
-use Rattle.oc_shows.specs.Started.{stored_section}
+use Rattle.oc_neutral.specs.declared.reloc.Target.TheVariants as target
+use Rattle.oc_shows.specs.{Built.{IsStarted}, Computed.{computed_symbol}, Finished.{AreFinal, LeavesBlanks}, Shows.{AreNumbered}, Started.{stored_section}}
 use Rattle.oc_shows.proofs.BuiltLaws.{built_shows}
-use Rattle.oc_elf_read.specs.Built.{keys_of, symboled}
-use Rattle.oc_elf.specs.CarriedSections.{section_with, sections_of}
-use Rattle.oc_elf.specs.CarriedSymbols.{symbols_of}
-use Rattle.oc_elf.specs.Elf.{elf_dialect}
-use Rattle.oc_elf.specs.Frames.{FileFrame, header_at}
-use Rattle.oc_elf_read.specs.Given.{given_at}
-use Rattle.oc_elf.specs.Laid.{IsFrame}
-use Rattle.oc_elf.specs.Sections.{is_type}
-use Rattle.oc_elf_read.specs.Shown.{CleanIsShown}
-use Rattle.oc_elf.specs.Tables.{reloc_of, symbol_count}
-use Rattle.oc_elf_read.proofs.AddedRelocs.{Standing}
-use Rattle.oc_elf_read.proofs.AimedFields.{IsAim}
-use Rattle.oc_elf_read.proofs.CarriedLemmas.{IsHere, number_here, section_here}
-use Rattle.oc_elf_read.proofs.FoundFields.{IsClean, rules_symbols, stages_clean}
-use Rattle.oc_elf_read.proofs.ReadableLemmas.{blank_is, nobits_is}
-use Rattle.oc_elf_read.proofs.RowLemmas.{IsRow, is_row}
-use Rattle.oc_elf_judge.proofs.SectionLemmas.{here}
+use Rattle.oc_elf_read.specs.{Built.{keys_of, symboled}, Given.{given_at}, Shown.{CleanIsShown}}
+use Rattle.oc_elf.specs.{CarriedSections.{section_with, sections_of}, CarriedSymbols.{symbols_of}, Elf.{elf_dialect}, Frames.{FileFrame, header_at}}
+use Rattle.oc_elf.specs.{Laid.{IsFrame}, Sections.{is_type}, Tables.{reloc_of, symbol_count}}
+use Rattle.oc_elf_read.proofs.{AddedRelocs.{Standing}, AimedFields.{IsAim}, CarriedLemmas.{IsHere, number_here, section_here}}
+use Rattle.oc_elf_read.proofs.{FoundFields.{IsClean, rules_symbols, stages_clean}, ReadableLemmas.{blank_is, nobits_is}, RowLemmas.{IsRow, is_row}}
 use Rattle.oc_elf_read.proofs.StandingFields.{free_or_given, given_standing}
+use Rattle.oc_elf_judge.proofs.SectionLemmas.{here}
 
 pub clean_is_shown : CleanIsShown
 clean_is_shown f keep d frame none started has =

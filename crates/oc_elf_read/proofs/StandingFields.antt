@@ -1,40 +1,20 @@
 -- The fields of a file without faults, each with the relocation that is given for it.
 use Rattle.std.proofs.Common.{◌≡◌, ℕ, ◌+◌, ◌<◌, ◌≤◌, ◌⊎◌, inl, inr, Bool, true, false, cond, Option, None, Some, refl, sym, ◌∙◌, ap, subst, arith}
-use Rattle.std.specs.Prelude.{◌&&◌, slice_get}
-use Rattle.std.specs.Option.{option_map_or, option_and_then}
-use Rattle.std.proofs.lemmas.Bool.{true≢false}
-use Rattle.std.proofs.lemmas.Option.{none-some, same_Some}
-use Rattle.oc_linking.specs.declared.terms.Keep.{Keep}
+use Rattle.std.specs.{Prelude.{◌&&◌, slice_get}, Option.{option_map_or, option_and_then}}
+use Rattle.std.proofs.lemmas.{Bool.{true≢false}, Option.{none-some, same_Some}}
+use Rattle.oc_linking.specs.{declared.terms.Keep.{Keep}, declared.terms.Width.{Width}, Fits.{bytes_of}, Keeping.{keeps}, Numbers.{first_upto}, Rules.{Field}}
 use Rattle.oc_linking.specs.declared.terms.Less.TheVariants as less
-use Rattle.oc_linking.specs.declared.terms.Width.{Width}
-use Rattle.oc_linking.specs.Fits.{bytes_of}
-use Rattle.oc_linking.specs.Keeping.{keeps}
-use Rattle.oc_linking.specs.Numbers.{first_upto}
 use Rattle.oc_linking.specs.Parts as parts
-use Rattle.oc_linking.specs.Rules.{Field}
-use Rattle.oc_neutral.specs.declared.reloc.Reloc.{Reloc}
-use Rattle.oc_shows.specs.Built.{AreApart, AreOfFile, DifferencesFit, IsField, IsFree, IsGiven}
-use Rattle.oc_neutral.specs.Dialects.{kept_fields}
-use Rattle.oc_neutral.specs.Faces.{shown_symbols}
-use Rattle.oc_neutral.specs.Objects.{Object}
+use Rattle.oc_neutral.specs.{declared.reloc.Reloc.{Reloc}, Dialects.{kept_fields}, Faces.{shown_symbols}, Objects.{Object}}
 use Rattle.oc_neutral.specs.Rows.{Row, Taken, TakesZero, TakesPlace, TakesGotBase, TakesImageBase, TakesHome, TakesSection, less_of, same_taken}
-use Rattle.oc_elf.specs.declared.rel.Rel.{Rel}
-use Rattle.oc_elf.specs.CarriedSections.{sections_of}
-use Rattle.oc_elf.specs.Elf.{elf_dialect}
-use Rattle.oc_elf.specs.Fields.{field_by, is_idle, rel_at, row_for, width_of}
-use Rattle.oc_elf.specs.Frames.{FileFrame}
+use Rattle.oc_shows.specs.Built.{AreApart, AreOfFile, DifferencesFit, IsField, IsFree, IsGiven}
+use Rattle.oc_elf.specs.{declared.rel.Rel.{Rel}, CarriedSections.{sections_of}, Elf.{elf_dialect}, Fields.{field_by, is_idle, rel_at, row_for, width_of}}
+use Rattle.oc_elf.specs.{Frames.{FileFrame}, Laid.{IsFrame}, RelocRules.{entry_fault}, Sections.{kind_of}, Tables.{reloc_count, reloc_of}}
 use Rattle.oc_elf_read.specs.Given.{given_at, reloc_by}
-use Rattle.oc_elf.specs.Laid.{IsFrame}
-use Rattle.oc_elf.specs.RelocRules.{entry_fault}
-use Rattle.oc_elf.specs.Sections.{kind_of}
-use Rattle.oc_elf.specs.Tables.{reloc_count, reloc_of}
-use Rattle.oc_elf_read.proofs.ApartEntries.{IsFit, apart_at, fit_at}
-use Rattle.oc_elf_read.proofs.CarriedLemmas.{IsHere, kind_here, number_here, section_here}
-use Rattle.oc_elf_read.proofs.FoundFields.{IsClean, IsEntry, entries_clean, entry_found, kept_here, none_here}
-use Rattle.oc_elf_read.proofs.GivenFields.{IsMeant, meant}
-use Rattle.oc_elf_judge.proofs.RelocLemmas.{IsGood}
+use Rattle.oc_elf_read.proofs.{ApartEntries.{IsFit, apart_at, fit_at}, CarriedLemmas.{IsHere, kind_here, number_here, section_here}}
+use Rattle.oc_elf_read.proofs.{FoundFields.{IsClean, IsEntry, entries_clean, entry_found, kept_here, none_here}, GivenFields.{IsMeant, meant}}
 use Rattle.oc_elf_read.proofs.RowLemmas.{IsRow, is_row}
-use Rattle.oc_elf_judge.proofs.SectionLemmas.{here}
+use Rattle.oc_elf_judge.proofs.{RelocLemmas.{IsGood}, SectionLemmas.{here}}
 use Rattle.oc_shows.proofs.GivenLaws as laws
 
 -- a row of ELF takes no section

@@ -1,23 +1,14 @@
 -- What is built of a file, step by step (our profile).
 use Rattle.std.specs.Prelude.{◌≡◌, ℕ, ◌+◌, ◌^◌, ◌<◌, ◌≤◌, false, List, [], ◌∷◌, ◌++◌, length, map, if◌then◌else◌, slice_index_or, Option, Some, None}
+use Rattle.std.specs.Option.{option_and_then}
 use Rattle.oc_base.specs.Strings.{is_given}
 use Rattle.oc_linking.specs.Parts as parts
-use Rattle.oc_neutral.specs.declared.elf.TheConstants.{SHT_NOBITS, ALIGN_BITS}
-use Rattle.oc_elf.specs.declared.constants.TheConstants.{MOST_SIZE}
-use Rattle.oc_neutral.specs.declared.symbol.Symbol.{Symbol}
-use Rattle.oc_neutral.specs.Building.{Draft}
-use Rattle.oc_shows.specs.Computed.{computed_symbol, keys_after}
-use Rattle.std.specs.Option.{option_and_then}
-use Rattle.oc_shows.specs.Started.{groups_by, plain_draft, stored_section}
-use Rattle.oc_shelf.specs.Reading.Collected.{collected}
-use Rattle.oc_elf.specs.declared.shdr.Shdr.{Shdr}
-use Rattle.oc_elf.specs.Classes.{format_of}
-use Rattle.oc_elf.specs.Frames.{FileFrame}
-use Rattle.oc_elf.specs.Groups.{comdat_key, is_comdat, owner_among}
-use Rattle.oc_elf.specs.Sections.{is_type}
-use Rattle.oc_elf.specs.CarriedSections.{section_of, sections_of}
+use Rattle.oc_neutral.specs.{declared.elf.TheConstants.{SHT_NOBITS, ALIGN_BITS}, declared.symbol.Symbol.{Symbol}, Building.{Draft}}
+use Rattle.oc_elf.specs.{declared.constants.TheConstants.{MOST_SIZE}, declared.shdr.Shdr.{Shdr}, Classes.{format_of}, Frames.{FileFrame}}
+use Rattle.oc_elf.specs.{Groups.{comdat_key, is_comdat, owner_among}, Sections.{is_type}, CarriedSections.{section_of, sections_of}}
 use Rattle.oc_elf.specs.CarriedSymbols.{symbol_of, symbols_of}
-use Rattle.oc_shelf.specs.Reading.Slots.{place_in}
+use Rattle.oc_shows.specs.{Computed.{computed_symbol, keys_after}, Started.{groups_by, plain_draft, stored_section}}
+use Rattle.oc_shelf.specs.{Reading.Collected.{collected}, Reading.Slots.{place_in}}
 
 -- a carried section lies in the file, where it takes bytes of it, and its numbers are small
 pub record IsPlaced (f : FileFrame) (s : Shdr) : Type 0 where

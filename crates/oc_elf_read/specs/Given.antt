@@ -1,35 +1,18 @@
 -- The relocation that is given to the Builder for each entry, and those that are given for a file (our profile).
-use Rattle.std.specs.Prelude.{ℕ, ◌&&◌, ◌||◌, Bool, nat_eq, nat_lt, true, List, slice_get, Option, Some, None, if◌then◌else◌}
-use Rattle.std.specs.Prelude.{ℤ, pos}
-use Rattle.oc_base.specs.declared.format.Word.{Word}
-use Rattle.oc_base.specs.declared.format.Word.TheVariants.{W32, W64}
-use Rattle.oc_base.specs.Numbers.{number_at}
-use Rattle.oc_linking.specs.declared.terms.Width.{Width}
-use Rattle.oc_linking.specs.declared.terms.Width.TheVariants.{Eight}
-use Rattle.oc_linking.specs.Fits.{bytes_of}
-use Rattle.oc_algebra.specs.Fields.{from_field_of}
-use Rattle.oc_algebra.specs.Residues.{reduced_number}
+use Rattle.std.specs.{Prelude.{ℕ, ◌&&◌, ◌||◌, Bool, nat_eq, nat_lt, true, List, slice_get, Option, Some, None, if◌then◌else◌}, Prelude.{ℤ, pos}}
 use Rattle.std.specs.Option.{option_map, option_map_or, option_and_then}
-use Rattle.oc_linking.specs.declared.terms.Keep.{Keep}
+use Rattle.oc_base.specs.{declared.format.Word.{Word}, declared.format.Word.TheVariants.{W32, W64}, Numbers.{number_at}}
+use Rattle.oc_linking.specs.{declared.terms.Width.{Width}, declared.terms.Width.TheVariants.{Eight}, Fits.{bytes_of}, declared.terms.Keep.{Keep}}
 use Rattle.oc_linking.specs.Keeping.{keeps}
+use Rattle.oc_algebra.specs.{Fields.{from_field_of}, Residues.{reduced_number}}
 use Rattle.oc_linking.specs.Parts as parts
-use Rattle.oc_shows.specs.Built.{RelocMap}
-use Rattle.oc_neutral.specs.declared.reloc.Reloc.{Reloc}
+use Rattle.oc_shows.specs.{Built.{RelocMap}, RowValues.{row_reloc}}
+use Rattle.oc_neutral.specs.{declared.reloc.Reloc.{Reloc}, Normal.{moved_addend}, Rows.{Row}}
 use Rattle.oc_neutral.specs.declared.reloc.Target.TheVariants as target
-use Rattle.oc_neutral.specs.Normal.{moved_addend}
-use Rattle.oc_neutral.specs.Rows.{Row}
-use Rattle.oc_shows.specs.RowValues.{row_reloc}
-use Rattle.oc_shelf.specs.declared.reading.order.PlacedEntry.{PlacedEntry}
-use Rattle.oc_elf.specs.declared.meaning.Meaning.{Meaning}
-use Rattle.oc_elf.specs.declared.rel.Rel.{Rel}
-use Rattle.oc_elf.specs.CarriedSymbols.{home_of, symbol_position}
-use Rattle.oc_elf.specs.Classes.{word_of}
-use Rattle.oc_elf.specs.Entries.{is_section_symbol}
-use Rattle.oc_elf.specs.CarriedSections.{sections_of}
-use Rattle.oc_elf.specs.Fields.{addend_in, is_idle, rel_at, row_for}
-use Rattle.oc_elf.specs.Frames.{FileFrame}
+use Rattle.oc_shelf.specs.{declared.reading.order.PlacedEntry.{PlacedEntry}, Reading.Order.{is_among}}
+use Rattle.oc_elf.specs.{declared.meaning.Meaning.{Meaning}, declared.rel.Rel.{Rel}, CarriedSymbols.{home_of, symbol_position}, Classes.{word_of}}
+use Rattle.oc_elf.specs.{Entries.{is_section_symbol}, CarriedSections.{sections_of}, Fields.{addend_in, is_idle, rel_at, row_for}, Frames.{FileFrame}}
 use Rattle.oc_elf.specs.Tables.{entry_of, reloc_of}
-use Rattle.oc_shelf.specs.Reading.Order.{is_among}
 
 -- the relocation of an entry with that row: against the section for its own symbol, with the offset added, else against the symbol
 abbrev pub reloc_with : FileFrame → List ℕ → Rel → Row → Option Reloc

@@ -1,16 +1,10 @@
 -- What a file shows that has no fault (our profile).
 use Rattle.std.specs.Prelude.{◌≡◌, None}
-use Rattle.oc_linking.specs.declared.terms.Keep.{Keep}
-use Rattle.oc_linking.specs.FirstFault.{first_fault}
+use Rattle.oc_linking.specs.{declared.terms.Keep.{Keep}, FirstFault.{first_fault}}
 use Rattle.oc_neutral.specs.Building.{Draft}
-use Rattle.oc_shows.specs.Built.{HasAdded, IsStarted}
-use Rattle.oc_shows.specs.Shows.{Shows}
-use Rattle.oc_elf_read.specs.Built.{symboled}
-use Rattle.oc_elf.specs.Elf.{elf_dialect, rest_stages}
-use Rattle.oc_elf.specs.Frames.{FileFrame}
-use Rattle.oc_elf_read.specs.Given.{given_at}
-use Rattle.oc_elf.specs.Laid.{IsFrame}
-use Rattle.oc_elf.specs.Tables.{symbol_count}
+use Rattle.oc_shows.specs.{Built.{HasAdded, IsStarted}, Shows.{Shows}}
+use Rattle.oc_elf_read.specs.{Built.{symboled}, Given.{given_at}}
+use Rattle.oc_elf.specs.{Elf.{elf_dialect, rest_stages}, Frames.{FileFrame}, Laid.{IsFrame}, Tables.{symbol_count}}
 
 -- a file without a fault shows what is built of its sections and symbols, with the relocations of its entries
 abbrev pub CleanIsShown : Type 0

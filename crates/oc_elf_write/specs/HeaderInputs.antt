@@ -2,12 +2,8 @@
 use Rattle.std.specs.Prelude.{◌≡◌, length}
 use Rattle.oc_neutral.specs.Objects.{Object}
 use Rattle.oc_elf.specs.declared.class.ElfClass.{ElfClass}
-use Rattle.oc_elf_file.specs.Heads.{heads_of, head_where, is_symtab_head}
-use Rattle.oc_elf_file.specs.Lines.{inner_lines}
-use Rattle.oc_elf_write.specs.declared.headers.HeaderInputs.{HeaderInputs}
-use Rattle.oc_elf_write.specs.Bodies.{AreBodies}
-use Rattle.oc_elf_write.specs.Keys.{AreKeys}
-use Rattle.oc_elf_write.specs.Numbers.{IsNumbered}
+use Rattle.oc_elf_file.specs.{Heads.{heads_of, head_where, is_symtab_head}, Lines.{inner_lines}}
+use Rattle.oc_elf_write.specs.{declared.headers.HeaderInputs.{HeaderInputs}, Bodies.{AreBodies}, Keys.{AreKeys}, Numbers.{IsNumbered}}
 
 -- this was made of the object
 pub record IsMadeOf (class : ElfClass) (n : Object) (made : HeaderInputs) : Type 0 where

@@ -1,37 +1,18 @@
 -- What the names of an object export, in order.
 use Rattle.std.proofs.Common.{◌≡◌, ◌≢◌, ℕ, zero, suc, ◌+◌, ◌<◌, Bool, true, false, cond, not, ◌||◌, List, [], ◌∷◌, ◌++◌, length, map, get_or, Option, Some, None, refl, sym, ◌∙◌, ap, arith}
-use Rattle.std.specs.Prelude.{bytes_eq, filter, slice_get}
-use Rattle.std.specs.List.{AllByRecursion, IsDistinct, flat_map, list_any}
-use Rattle.std.specs.List.Sorted.{IsSortedBy}
-use Rattle.std.specs.Option.{option_flatten, option_map, option_map_or}
-use Rattle.std.specs.Ordering.{is_lt, nat_cmp}
-use Rattle.std.specs.Cmp.Lexicographic.{slice_cmp}
-use Rattle.std.proofs.lemmas.Bool.{true≢false}
-use Rattle.std.proofs.lemmas.Cmp.{nat_list_eq_equiv}
-use Rattle.std.proofs.lemmas.List.{get_or-map, length-map}
-use Rattle.std.proofs.lemmas.List.Sorted.{list_any-IsPermutation}
-use Rattle.std.proofs.lemmas.Map.Keys.{IsDistinct-IsPermutation}
-use Rattle.std.proofs.lemmas.Option.{none-some, same_Some, slice_get-map}
-use Rattle.std.proofs.lemmas.Slice.Eq.{bytes_eq-Decides}
+use Rattle.std.specs.{Prelude.{bytes_eq, filter, slice_get}, List.{AllByRecursion, IsDistinct, flat_map, list_any}, List.Sorted.{IsSortedBy}}
+use Rattle.std.specs.{Option.{option_flatten, option_map, option_map_or}, Ordering.{is_lt, nat_cmp}, Cmp.Lexicographic.{slice_cmp}}
+use Rattle.std.proofs.lemmas.{Bool.{true≢false}, Cmp.{nat_list_eq_equiv}, List.{get_or-map, length-map}, List.Sorted.{list_any-IsPermutation}}
+use Rattle.std.proofs.lemmas.{Map.Keys.{IsDistinct-IsPermutation}, Option.{none-some, same_Some, slice_get-map}, Slice.Eq.{bytes_eq-Decides}}
 use Rattle.oc_base.specs.Formats.{word_for}
-use Rattle.oc_linking.specs.declared.terms.Binding.{Binding}
-use Rattle.oc_linking.specs.declared.terms.Binding.TheVariants.{Local, Global, Undefined, Common, Weak}
-use Rattle.oc_linking.specs.Numbers.{or_else}
-use Rattle.oc_linking.specs.Parts.{Symbol, by_name, is_local}
-use Rattle.oc_linking.specs.Linking.{Export, export_at, exports}
-use Rattle.oc_neutral.specs.Objects.{Object}
-use Rattle.oc_neutral.specs.Faces.{shown_symbol, shown_symbols}
-use Rattle.oc_neutral.specs.Invariants.{IsObject}
+use Rattle.oc_linking.specs.{declared.terms.Binding.{Binding}, declared.terms.Binding.TheVariants.{Local, Global, Undefined, Common, Weak}, Numbers.{or_else}}
+use Rattle.oc_linking.specs.{Parts.{Symbol, by_name, is_local}, Linking.{Export, export_at, exports}}
+use Rattle.oc_neutral.specs.{Objects.{Object}, Faces.{shown_symbol, shown_symbols}, Invariants.{IsObject}}
 use Rattle.oc_strings.specs.Repeats.{NameList, name_at, nonlocal_name}
 use Rattle.oc_strings.proofs.RepeatLemmas.{named_within}
-use Rattle.oc_place.specs.declared.index.Named.{Named}
-use Rattle.oc_place.specs.Indexes.{IsIndex, IsNamed, present, texts}
-use Rattle.oc_place.specs.Placings.{Placing}
-use Rattle.oc_place.specs.Written.{names_of}
+use Rattle.oc_place.specs.{declared.index.Named.{Named}, Indexes.{IsIndex, IsNamed, present, texts}, Placings.{Placing}, Written.{names_of}}
 use Rattle.oc_place.proofs.IndexLemmas.{length-names, name_from, names, one_name}
-use Rattle.oc_link.specs.Texts.{exported_text, in_order, name_text, nonlocal_names}
-use Rattle.oc_link.specs.Pieces.{export_in, exports_text_of, symbol_text_of}
-use Rattle.oc_link.specs.Values.{given, laid}
+use Rattle.oc_link.specs.{Texts.{exported_text, in_order, name_text, nonlocal_names}, Pieces.{export_in, exports_text_of, symbol_text_of}, Values.{given, laid}}
 use Rattle.oc_link.proofs.OrderLemmas.{has-in_order, same_order, strict-in_order, strict_sorted}
 
 -- ... the names

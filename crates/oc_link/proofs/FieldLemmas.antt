@@ -1,30 +1,17 @@
 -- The fields of an object, found and filled.
 use Rattle.std.proofs.Common.{◌≡◌, ℕ, ◌≤◌, Bool, true, false, cond, List, [], ◌∷◌, length, map, get_or, replicate, Option, Some, None, refl, sym, ◌∙◌, ap, subst, arith}
 use mathlib.Core.Path.{fun_ext}
-use Rattle.std.specs.Prelude.{slice_get}
-use Rattle.std.specs.List.{AllByRecursion}
-use Rattle.std.specs.Option.{option_map, option_map_or, unwrap_or}
+use Rattle.std.specs.{Prelude.{slice_get}, List.{AllByRecursion}, Option.{option_map, option_map_or, unwrap_or}}
 use Rattle.std.proofs.lemmas.Option.{get_or_from_slice_get, slice_get-map}
 use Rattle.oc_base.specs.Formats.{word_for}
-use Rattle.oc_linking.specs.declared.terms.Patch.{Patch}
-use Rattle.oc_linking.specs.Images.{first_at, overflows, overlay, passes_at}
-use Rattle.oc_linking.specs.Linking.{patch_of}
-use Rattle.oc_chains.specs.declared.field.Field.{Field}
-use Rattle.oc_chains.specs.Fields.{FollowFrom, end_of}
-use Rattle.oc_chains.specs.Lists.{list_of}
-use Rattle.oc_neutral.specs.declared.section.Section.{Section}
-use Rattle.oc_neutral.specs.declared.reloc.Reloc.{Reloc}
-use Rattle.oc_neutral.specs.Objects.{Object, reloc_at}
-use Rattle.oc_neutral.specs.Building.{is_zero, written}
-use Rattle.oc_neutral.specs.Constants.{IsWide}
-use Rattle.oc_neutral.specs.Faces.{contents_of, field_of}
-use Rattle.oc_neutral.specs.Invariants.{HasItsBytes, IsHeld, IsNormal, IsObject, NamesOriginal}
-use Rattle.oc_neutral.proofs.Positions.{each_at, each_weaker}
-use Rattle.oc_neutral.proofs.WrittenBytes.{length-written}
+use Rattle.oc_linking.specs.{declared.terms.Patch.{Patch}, Images.{first_at, overflows, overlay, passes_at}, Linking.{patch_of}}
+use Rattle.oc_chains.specs.{declared.field.Field.{Field}, Fields.{FollowFrom, end_of}, Lists.{list_of}}
+use Rattle.oc_neutral.specs.{declared.section.Section.{Section}, declared.reloc.Reloc.{Reloc}, Objects.{Object, reloc_at}, Building.{is_zero, written}}
+use Rattle.oc_neutral.specs.{Constants.{IsWide}, Faces.{contents_of, field_of}, Invariants.{HasItsBytes, IsHeld, IsNormal, IsObject, NamesOriginal}}
+use Rattle.oc_neutral.proofs.{Positions.{each_at, each_weaker}, WrittenBytes.{length-written}}
 use Rattle.oc_place.specs.Placings.{Placing}
 use Rattle.oc_link.specs.Values.{bytes_of, contents, first_in, first_of, laid, overflows_at, patch_at, patches, value_at, valued}
-use Rattle.oc_link.proofs.FillLemmas.{filled, none_filled, write_step}
-use Rattle.oc_link.proofs.ScanLemmas.{among, emptied_at, scan}
+use Rattle.oc_link.proofs.{FillLemmas.{filled, none_filled, write_step}, ScanLemmas.{among, emptied_at, scan}}
 
 -- a field of a section is in normal form, and names no alias
 pub record IsFound (n : Object) (s : ℕ) (f : Field Reloc) : Type 0 where

@@ -1,24 +1,12 @@
 -- The bytes of a section whose fields are filled, field by field.
 use Rattle.std.proofs.Common.{◌≡◌, ℕ, ◌+◌, ◌<◌, ◌≤◌, List, [], ◌∷◌, length, Option, None, sym, ◌∙◌, ap, subst, arith}
-use Rattle.std.specs.List.{AllByRecursion}
-use Rattle.std.specs.Option.{option_map}
-use Rattle.std.proofs.lemmas.List.{ext_get_or}
-use Rattle.std.proofs.lemmas.Option.{none-some}
-use Rattle.oc_linking.specs.declared.terms.Patch.{Patch}
-use Rattle.oc_linking.specs.Fits.{bytes_of}
-use Rattle.oc_linking.specs.Images.{overlay}
-use Rattle.oc_linking.specs.Shows.{Apart}
-use Rattle.oc_linking.proofs.Overlay.{length-overlay}
-use Rattle.oc_linking.proofs.Storing.{others_stay}
-use Rattle.oc_chains.specs.declared.field.Field.{Field}
-use Rattle.oc_chains.specs.Fields.{end_of, FollowFrom}
-use Rattle.oc_neutral.specs.declared.reloc.Reloc.{Reloc}
-use Rattle.oc_neutral.specs.Building.{written}
-use Rattle.oc_neutral.specs.Constants.{IsWide}
-use Rattle.oc_neutral.specs.Objects.{reloc_among}
-use Rattle.oc_neutral.proofs.Mapped.{from_mapped}
-use Rattle.oc_neutral.proofs.SortedFields.{found_first, other_first, none_before}
-use Rattle.oc_neutral.proofs.Standing.{ends_by}
+use Rattle.std.specs.{List.{AllByRecursion}, Option.{option_map}}
+use Rattle.std.proofs.lemmas.{List.{ext_get_or}, Option.{none-some}}
+use Rattle.oc_linking.specs.{declared.terms.Patch.{Patch}, Fits.{bytes_of}, Images.{overlay}, Shows.{Apart}}
+use Rattle.oc_linking.proofs.{Overlay.{length-overlay}, Storing.{others_stay}}
+use Rattle.oc_chains.specs.{declared.field.Field.{Field}, Fields.{end_of, FollowFrom}}
+use Rattle.oc_neutral.specs.{declared.reloc.Reloc.{Reloc}, Building.{written}, Constants.{IsWide}, Objects.{reloc_among}}
+use Rattle.oc_neutral.proofs.{Mapped.{from_mapped}, SortedFields.{found_first, other_first, none_before}, Standing.{ends_by}}
 use Rattle.oc_link.proofs.PatchedBytes.{patch_written}
 
 module _ (value : ℕ → Reloc → ℕ) where

@@ -1,10 +1,7 @@
 -- The two digits of a byte.
 use Rattle.std.proofs.Common.{◌≡◌, ℕ, ◌-◌, ◌/◌, ◌%◌, ◌<◌, false, inl, inr, List, [], ◌∷◌, ◌++◌, length, sym, ◌∙◌, ap, arith}
-use Rattle.std.specs.Prelude.{replicate}
-use Rattle.std.specs.Fmt.{digit_glyph}
-use Rattle.std.proofs.lemmas.Bool.{cases_lt}
-use Rattle.std.proofs.lemmas.List.{append_assoc}
-use Rattle.std.proofs.lemmas.Fmt.{hex_one_digit, hex_two_digits}
+use Rattle.std.specs.{Prelude.{replicate}, Fmt.{digit_glyph}}
+use Rattle.std.proofs.lemmas.{Bool.{cases_lt}, List.{append_assoc}, Fmt.{hex_one_digit, hex_two_digits}}
 use Rattle.oc_dump.specs.Lines.{hex}
 
 -- a digit

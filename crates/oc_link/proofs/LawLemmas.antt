@@ -1,20 +1,13 @@
 -- The text of an object that shows a file is that of the file.
 use Rattle.std.proofs.Common.{◌≡◌, ℕ, List, map, sym, ◌∙◌, ap}
 use Rattle.oc_base.specs.Formats.{word_for}
-use Rattle.oc_linking.specs.Keeping.{all}
-use Rattle.oc_linking.specs.Placing.{Placement, Outside}
-use Rattle.oc_linking.specs.Shows.{object_link}
-use Rattle.oc_neutral.specs.Objects.{Object}
-use Rattle.oc_neutral.specs.Faces.{linked_object, shown_sections, shown_symbols, frame_of}
-use Rattle.oc_neutral.specs.Dialects.{Dialect, IsDialect}
+use Rattle.oc_linking.specs.{Keeping.{all}, Placing.{Placement, Outside}, Shows.{object_link}}
+use Rattle.oc_neutral.specs.{Objects.{Object}, Faces.{linked_object, shown_sections, shown_symbols, frame_of}, Dialects.{Dialect, IsDialect}}
 use Rattle.oc_shows.specs.Shows.{Shows}
 use Rattle.oc_shows.proofs.Linked.{link_of_file}
-use Rattle.oc_place.specs.Placings.{outside_of, placement_of}
-use Rattle.oc_place.specs.Footprints.{Footprint, footprint_in}
+use Rattle.oc_place.specs.{Placings.{outside_of, placement_of}, Footprints.{Footprint, footprint_in}}
 use Rattle.oc_place.proofs.FootprintLemmas.{footprints_agree}
-use Rattle.oc_link.specs.Laws.{TextsAgree}
-use Rattle.oc_link.specs.Linked.{file_text, link_text_in, link_text_of, object_text}
-use Rattle.oc_link.specs.Texts.{text_of}
+use Rattle.oc_link.specs.{Laws.{TextsAgree}, Linked.{file_text, link_text_in, link_text_of, object_text}, Texts.{text_of}}
 
 -- at one placement and outside map
 texts_same : (f : Dialect) (b : List ℕ) (n : Object) → IsDialect f → Shows f b all n → (p : Placement) (e : Outside) → object_text n p e ≡ file_text f b p e

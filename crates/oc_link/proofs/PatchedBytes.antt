@@ -2,20 +2,11 @@
 use Rattle.std.proofs.Common.{◌≡◌, ℕ, ◌+◌, ◌-◌, ◌/◌, ◌%◌, ◌^◌, ◌<◌, ◌≤◌, Bool, true, false, cond, nat_eq, nat_le, nat_lt, inl, inr, List, length, get_or, Option, Some, None, refl, sym, ◌∙◌, ap, subst, arith}
 use mathlib.Core.Path.{fun_ext}
 use Rattle.std.specs.Option.{option_and_then, unwrap_or}
-use Rattle.std.proofs.lemmas.Bool.{cases_lt, eqb-true}
-use Rattle.std.proofs.lemmas.Bool.Decides.{nat_tests}
-use Rattle.std.proofs.lemmas.List.{ext_get_or}
-use Rattle.std.proofs.lemmas.Option.{none-some}
-use Rattle.oc_linking.specs.declared.terms.Patch.{Patch}
-use Rattle.oc_linking.specs.Fits.{bytes_of, stored}
-use Rattle.oc_linking.specs.Images.{byte_by, byte_upto, overlay}
-use Rattle.oc_linking.specs.Shows.{Apart}
-use Rattle.oc_linking.specs.Numbers.{first_upto}
-use Rattle.oc_linking.proofs.Overlay.{length-overlay}
-use Rattle.oc_linking.proofs.Storing.{byte_of_image, byte-of_field, others_stay}
+use Rattle.std.proofs.lemmas.{Bool.{cases_lt, eqb-true}, Bool.Decides.{nat_tests}, List.{ext_get_or}, Option.{none-some}}
+use Rattle.oc_linking.specs.{declared.terms.Patch.{Patch}, Fits.{bytes_of, stored}, Images.{byte_by, byte_upto, overlay}, Shows.{Apart}, Numbers.{first_upto}}
+use Rattle.oc_linking.proofs.{Overlay.{length-overlay}, Storing.{byte_of_image, byte-of_field, others_stay}}
 use Rattle.oc_neutral.specs.Building.{written}
-use Rattle.oc_neutral.proofs.Adding.{wide_enough}
-use Rattle.oc_neutral.proofs.WrittenBytes.{length-written, written-before, written-behind, written-inside}
+use Rattle.oc_neutral.proofs.{Adding.{wide_enough}, WrittenBytes.{length-written, written-before, written-behind, written-inside}}
 
 -- all patches, and those that are left without the first, which lies before them
 module _ (all left : ℕ → Option Patch) (at : ℕ) (q : Patch) (here : all at ≡ Some q) (same_others : (i : ℕ) → nat_eq at i ≡ false → all i ≡ left i)

@@ -1,37 +1,23 @@
 -- Texts of objects where they are placed: the first two are worked cases of the command, the others by hand from its description.
 use Rattle.std.proofs.Common.{◌≡◌, ℕ, true, false, List, [], ◌∷◌, ◌++◌, refl}
-use Rattle.std.specs.Prelude.{codes, ℤ, pos, negsuc, Option, Some, None}
-use Rattle.std.specs.Fmt.{digits}
+use Rattle.std.specs.{Prelude.{codes, ℤ, pos, negsuc, Option, Some, None}, Fmt.{digits}}
 use Rattle.oc_base.specs.declared.format.Format.TheVariants.{Elf32, Elf64}
-use Rattle.oc_linking.specs.declared.terms.Base.TheVariants.{Address}
-use Rattle.oc_linking.specs.declared.terms.Binding.{Binding}
-use Rattle.oc_linking.specs.declared.terms.Binding.TheVariants.{Global, Undefined, Common, Weak}
-use Rattle.oc_linking.specs.declared.terms.Check.{Check}
-use Rattle.oc_linking.specs.declared.terms.Check.TheVariants.{Signed, Wrap}
+use Rattle.oc_linking.specs.{declared.terms.Base.TheVariants.{Address}, declared.terms.Binding.{Binding}}
+use Rattle.oc_linking.specs.{declared.terms.Binding.TheVariants.{Global, Undefined, Common, Weak}, declared.terms.Check.{Check}}
+use Rattle.oc_linking.specs.{declared.terms.Check.TheVariants.{Signed, Wrap}, declared.terms.Hint.TheVariants.{Plain}, declared.terms.Kind.{Kind}}
+use Rattle.oc_linking.specs.{declared.terms.Kind.TheVariants.{Code, Data, Zero}, declared.terms.Less.{Less}, declared.terms.Mark.TheVariants.{NoType}}
+use Rattle.oc_linking.specs.{declared.terms.Visibility.TheVariants.{Default}, declared.terms.Width.TheVariants.{Four}}
 use Rattle.oc_linking.specs.declared.terms.Fallback.TheVariants as fallback
-use Rattle.oc_linking.specs.declared.terms.Hint.TheVariants.{Plain}
-use Rattle.oc_linking.specs.declared.terms.Kind.{Kind}
-use Rattle.oc_linking.specs.declared.terms.Kind.TheVariants.{Code, Data, Zero}
-use Rattle.oc_linking.specs.declared.terms.Less.{Less}
 use Rattle.oc_linking.specs.declared.terms.Less.TheVariants as less
-use Rattle.oc_linking.specs.declared.terms.Mark.TheVariants.{NoType}
 use Rattle.oc_linking.specs.declared.terms.Value.TheVariants as value
-use Rattle.oc_linking.specs.declared.terms.Visibility.TheVariants.{Default}
-use Rattle.oc_linking.specs.declared.terms.Width.TheVariants.{Four}
 use Rattle.oc_algebra.specs.Residues.{residue_of}
 use Rattle.oc_chains.specs.declared.field.Field.{Field}
 use Rattle.oc_dump.specs.Lines.{hex}
-use Rattle.oc_neutral.specs.declared.reloc.Reloc.{Reloc}
-use Rattle.oc_neutral.specs.declared.reloc.Target.TheVariants as target
-use Rattle.oc_neutral.specs.declared.section.Section.{Section}
-use Rattle.oc_neutral.specs.declared.symbol.Symbol.{Symbol}
-use Rattle.oc_neutral.specs.Objects.{Object}
+use Rattle.oc_neutral.specs.{declared.reloc.Reloc.{Reloc}, declared.section.Section.{Section}, declared.symbol.Symbol.{Symbol}, Objects.{Object}}
 use Rattle.oc_neutral.specs.Worth.{residue_at}
-use Rattle.oc_place.specs.declared.spot.Outside.{Outside}
-use Rattle.oc_place.specs.declared.spot.Spot.{Spot}
-use Rattle.oc_place.specs.Placings.{Placing, nothing_given, origin}
-use Rattle.oc_link.specs.Linked.{link_text_of}
-use Rattle.oc_link.specs.Texts.{bytes_text, head_text, in_order, overflow_text}
+use Rattle.oc_neutral.specs.declared.reloc.Target.TheVariants as target
+use Rattle.oc_place.specs.{declared.spot.Outside.{Outside}, declared.spot.Spot.{Spot}, Placings.{Placing, nothing_given, origin}}
+use Rattle.oc_link.specs.{Linked.{link_text_of}, Texts.{bytes_text, head_text, in_order, overflow_text}}
 
 -- a section of that kind, size and bytes, in that group
 section : Kind → ℕ → List ℕ → Option ℕ → Section

@@ -1,20 +1,11 @@
 -- The first field that passes a test, by a scan of the offsets and along the fields.
 use Rattle.std.proofs.Common.{◌≡◌, ℕ, zero, suc, ◌+◌, ◌≤◌, Bool, false, cond, List, [], ◌∷◌, length, drop, Some, None, inl, inr, refl, sym, ◌∙◌, ap, arith}
-use Rattle.std.specs.Prelude.{nat_eq, slice_get}
-use Rattle.std.specs.List.{AllByRecursion}
-use Rattle.std.specs.Option.{option_map, option_map_or}
-use Rattle.std.proofs.lemmas.Bool.{cases_eq}
-use Rattle.std.proofs.lemmas.Bool.Decides.{nat_tests}
-use Rattle.std.proofs.lemmas.Option.{none-some, same_Some}
-use Rattle.oc_linking.specs.Numbers.{first_from, or_else}
-use Rattle.oc_linking.specs.Images.{Patches, emptied, first_at, first_field}
-use Rattle.oc_linking.specs.declared.terms.Patch.{Patch}
-use Rattle.oc_chains.specs.declared.field.Field.{Field}
-use Rattle.oc_chains.specs.Fields.{FollowFrom, end_of}
-use Rattle.oc_neutral.specs.declared.reloc.Reloc.{Reloc}
-use Rattle.oc_neutral.specs.Objects.{reloc_among}
-use Rattle.oc_neutral.proofs.Scanning.{follows_from}
-use Rattle.oc_neutral.proofs.SortedFields.{found_first, none_before, other_first}
+use Rattle.std.specs.{Prelude.{nat_eq, slice_get}, List.{AllByRecursion}, Option.{option_map, option_map_or}}
+use Rattle.std.proofs.lemmas.{Bool.{cases_eq}, Bool.Decides.{nat_tests}, Option.{none-some, same_Some}}
+use Rattle.oc_linking.specs.{Numbers.{first_from, or_else}, Images.{Patches, emptied, first_at, first_field}, declared.terms.Patch.{Patch}}
+use Rattle.oc_chains.specs.{declared.field.Field.{Field}, Fields.{FollowFrom, end_of}}
+use Rattle.oc_neutral.specs.{declared.reloc.Reloc.{Reloc}, Objects.{reloc_among}}
+use Rattle.oc_neutral.proofs.{Scanning.{follows_from}, SortedFields.{found_first, none_before, other_first}}
 use Rattle.oc_link.specs.Values.{first_of}
 
 -- a scan that finds none

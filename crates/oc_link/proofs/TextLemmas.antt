@@ -1,28 +1,19 @@
 -- The text of sections, as it is put.
 use Rattle.std.proofs.Common.{◌≡◌, ℕ, zero, suc, ◌+◌, ◌<◌, ◌≤◌, Bool, true, false, cond, List, [], ◌++◌, length, map, get_or, replicate, take, Option, Some, refl, sym, ◌∙◌, ap, arith}
-use Rattle.std.specs.Prelude.{slice_get}
-use Rattle.std.specs.List.{enumerate_from, flat_map}
-use Rattle.std.specs.Option.{option_map, option_map_or}
+use Rattle.std.specs.{Prelude.{slice_get}, List.{enumerate_from, flat_map}, Option.{option_map, option_map_or}}
 use Rattle.std.proofs.lemmas.List.FromFn.{get_or-enumerate_from, length-enumerate_from}
 use Rattle.std.proofs.lemmas.Option.{get_or_from_slice_get, slice_get-get_or, slice_get-map, slice_get_within}
 use Rattle.oc_base.specs.Formats.{word_for}
 use Rattle.oc_dump.proofs.LineLemmas.{flat_map-next}
-use Rattle.oc_linking.specs.declared.terms.Patch.{Patch}
-use Rattle.oc_linking.specs.Images.{overlay}
+use Rattle.oc_linking.specs.{declared.terms.Patch.{Patch}, Images.{overlay}}
 use Rattle.oc_linking.specs.Parts as parts
 use Rattle.oc_linking.proofs.Overlay.{length-overlay}
-use Rattle.oc_neutral.specs.declared.section.Section.{Section}
-use Rattle.oc_neutral.specs.Objects.{Object}
-use Rattle.oc_neutral.specs.Building.{is_zero, stored_size}
-use Rattle.oc_neutral.specs.Faces.{contents_of, shown_section, frame_of}
-use Rattle.oc_neutral.specs.Invariants.{HasItsBytes, IsObject}
-use Rattle.oc_neutral.proofs.Numbered.{overlay_at}
-use Rattle.oc_neutral.proofs.Positions.{each_at}
-use Rattle.oc_place.specs.declared.spot.Spot.{Spot}
-use Rattle.oc_place.specs.Placings.{Placing, origin}
+use Rattle.oc_neutral.specs.{declared.section.Section.{Section}, Objects.{Object}, Building.{is_zero, stored_size}}
+use Rattle.oc_neutral.specs.{Faces.{contents_of, shown_section, frame_of}, Invariants.{HasItsBytes, IsObject}}
+use Rattle.oc_neutral.proofs.{Numbered.{overlay_at}, Positions.{each_at}}
+use Rattle.oc_place.specs.{declared.spot.Spot.{Spot}, Placings.{Placing, origin}}
 use Rattle.oc_link.specs.Texts as texts
-use Rattle.oc_link.specs.Pieces.{frames, image_text_of, images, section_text_of}
-use Rattle.oc_link.specs.Values.{bytes_of, contents, laid, patches}
+use Rattle.oc_link.specs.{Pieces.{frames, image_text_of, images, section_text_of}, Values.{bytes_of, contents, laid, patches}}
 use Rattle.oc_link.proofs.ScanLemmas.{emptied_at}
 
 -- an item of a list that is numbered

@@ -1,46 +1,29 @@
 -- The values of an object's symbols and fields where it is placed.
 use Rattle.std.proofs.Common.{◌≡◌, ℕ, ◌+◌, ◌<◌, Bool, true, false, cond, List, length, get_or, Option, Some, None, refl, sym, ◌∙◌, ap, subst, arith}
-use Rattle.std.specs.Prelude.{slice_get}
-use Rattle.std.specs.Option.{option_map, option_map_or, unwrap_or}
-use Rattle.std.proofs.lemmas.Bool.{true≢false}
-use Rattle.std.proofs.lemmas.List.{length-map}
-use Rattle.std.proofs.lemmas.Option.{get_or_from_slice_get, same_Some, slice_get-map, slice_get_within}
-use Rattle.oc_base.specs.Formats.{word_for}
-use Rattle.oc_linking.specs.declared.terms.Fallback.{Fallback}
+use Rattle.std.specs.{Prelude.{slice_get}, Option.{option_map, option_map_or, unwrap_or}}
+use Rattle.std.proofs.lemmas.{Bool.{true≢false}, List.{length-map}, Option.{get_or_from_slice_get, same_Some, slice_get-map, slice_get_within}}
+use Rattle.oc_base.specs.{Formats.{word_for}, declared.format.Word.{Word}}
+use Rattle.oc_linking.specs.{declared.terms.Fallback.{Fallback}, declared.terms.Binding.{Binding}}
+use Rattle.oc_linking.specs.{declared.terms.Binding.TheVariants.{Local, Global, Undefined, Common, Weak}, declared.terms.Less.{Less}}
+use Rattle.oc_linking.specs.{declared.terms.Patch.{Patch}, Numbers.{minus, or_else}, Parts.{is_local}}
+use Rattle.oc_linking.specs.Values.{Valued, fallback_site, global_site, numbered, strong_site, value_of, worthless}
 use Rattle.oc_linking.specs.declared.terms.Fallback.TheVariants as fallback
-use Rattle.oc_linking.specs.declared.terms.Binding.{Binding}
-use Rattle.oc_linking.specs.declared.terms.Binding.TheVariants.{Local, Global, Undefined, Common, Weak}
-use Rattle.oc_linking.specs.declared.terms.Less.{Less}
 use Rattle.oc_linking.specs.declared.terms.Less.TheVariants as less
-use Rattle.oc_linking.specs.declared.terms.Patch.{Patch}
-use Rattle.oc_linking.specs.Numbers.{minus, or_else}
 use Rattle.oc_algebra.specs.Residues.{residue_of}
 use Rattle.oc_chains.specs.declared.field.Field.{Field}
-use Rattle.oc_neutral.specs.declared.reloc.Reloc.{Reloc}
-use Rattle.oc_base.specs.declared.format.Word.{Word}
-use Rattle.oc_linking.specs.Parts.{is_local}
+use Rattle.oc_neutral.specs.{declared.reloc.Reloc.{Reloc}, declared.section.Section.{Section}, declared.symbol.Symbol.{Symbol}, Objects.{Object}}
+use Rattle.oc_neutral.specs.Faces.{number_of, shown_binding, shown_fallback, shown_symbol, shown_symbols}
+use Rattle.oc_neutral.specs.{Invariants.{IsFallback, IsLessThere, IsObject, IsOriginal, is_strong}, Worth.{base_of, less_of, residue_at, target_worth}}
 use Rattle.oc_linking.specs.Parts as parts
 use Rattle.oc_linking.specs.Placing as placing
-use Rattle.oc_linking.specs.Values.{Valued, fallback_site, global_site, numbered, strong_site, value_of, worthless}
 use Rattle.oc_linking.proofs.Worth.{numbered-first}
-use Rattle.oc_neutral.specs.declared.section.Section.{Section}
-use Rattle.oc_neutral.specs.declared.symbol.Symbol.{Symbol}
 use Rattle.oc_neutral.specs.declared.reloc.Target.TheVariants as target
-use Rattle.oc_neutral.specs.Objects.{Object}
-use Rattle.oc_neutral.specs.Faces.{number_of, shown_binding, shown_fallback, shown_symbol, shown_symbols}
-use Rattle.oc_neutral.specs.Invariants.{IsFallback, IsLessThere, IsObject, IsOriginal, is_strong}
 use Rattle.oc_strings.specs.Repeats.{name_at}
-use Rattle.oc_neutral.specs.Worth.{base_of, less_of, residue_at, target_worth}
 use Rattle.oc_neutral.proofs.Positions.{there_at}
-use Rattle.oc_place.specs.declared.spot.Spot.{Spot}
-use Rattle.oc_place.specs.declared.spot.Outside.{Outside}
-use Rattle.oc_place.specs.Placings.{Placing, as_site, is_dropped, nothing_given, outside_at}
-use Rattle.oc_place.specs.Footprints.{footprint_of}
-use Rattle.oc_place.specs.Written.{symbol_named}
-use Rattle.oc_place.proofs.CheckLemmas.{group_is}
-use Rattle.oc_place.proofs.IndexLemmas.{name_here, names, one_name, place_only}
-use Rattle.oc_link.specs.declared.target.TargetValue.{TargetValue}
-use Rattle.oc_link.specs.Values.{IsLessIn, as_valued, given, laid, patch_at, site_in, value_in, valued}
+use Rattle.oc_place.specs.{declared.spot.Spot.{Spot}, declared.spot.Outside.{Outside}, Placings.{Placing, as_site, is_dropped, nothing_given, outside_at}}
+use Rattle.oc_place.specs.{Footprints.{footprint_of}, Written.{symbol_named}}
+use Rattle.oc_place.proofs.{CheckLemmas.{group_is}, IndexLemmas.{name_here, names, one_name, place_only}}
+use Rattle.oc_link.specs.{declared.target.TargetValue.{TargetValue}, Values.{IsLessIn, as_valued, given, laid, patch_at, site_in, value_in, valued}}
 use Rattle.oc_shows.proofs.Reordered.{shown_local}
 
 -- the binding is not Weak

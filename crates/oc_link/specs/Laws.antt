@@ -1,9 +1,7 @@
 -- The law on texts of linked objects (our profile).
 use Rattle.std.specs.Prelude.{◌≡◌, ℕ, List}
 use Rattle.oc_linking.specs.Keeping.{all}
-use Rattle.oc_neutral.specs.Objects.{Object}
-use Rattle.oc_neutral.specs.Dialects.{Dialect, IsDialect}
-use Rattle.oc_neutral.specs.Invariants.{IsObject}
+use Rattle.oc_neutral.specs.{Objects.{Object}, Dialects.{Dialect, IsDialect}, Invariants.{IsObject}}
 use Rattle.oc_shows.specs.Shows.{Shows}
 use Rattle.oc_place.specs.Placings.{Placing}
 use Rattle.oc_link.specs.Linked.{link_text_in, link_text_of}

@@ -1,15 +1,9 @@
 -- The text of a file, and of an object, that is linked at a placement (our profile).
 use Rattle.std.specs.Prelude.{ℕ, List, map}
 use Rattle.oc_base.specs.Formats.{word_for}
-use Rattle.oc_linking.specs.Keeping.{all}
-use Rattle.oc_linking.specs.Placing.{Placement, Outside}
-use Rattle.oc_linking.specs.Linking.{link_whole}
-use Rattle.oc_linking.specs.Shows.{object_link}
-use Rattle.oc_neutral.specs.Objects.{Object}
-use Rattle.oc_neutral.specs.Faces.{linked_object, shown_sections, shown_symbols, frame_of}
-use Rattle.oc_neutral.specs.Dialects.{Dialect}
-use Rattle.oc_place.specs.Placings.{Placing, outside_of, placement_of}
-use Rattle.oc_place.specs.Footprints.{footprint_in, footprint_of}
+use Rattle.oc_linking.specs.{Keeping.{all}, Placing.{Placement, Outside}, Linking.{link_whole}, Shows.{object_link}}
+use Rattle.oc_neutral.specs.{Objects.{Object}, Faces.{linked_object, shown_sections, shown_symbols, frame_of}, Dialects.{Dialect}}
+use Rattle.oc_place.specs.{Placings.{Placing, outside_of, placement_of}, Footprints.{footprint_in, footprint_of}}
 use Rattle.oc_link.specs.Texts.{text_of}
 
 -- of an object

@@ -1,17 +1,10 @@
 -- The pieces of the text of an object: of each section, and of what each symbol exports (our profile).
-use Rattle.std.specs.Prelude.{ℕ, List, [], ◌++◌, get_or, map, Option, slice_get}
-use Rattle.std.specs.List.{flat_map}
-use Rattle.std.specs.Option.{option_map_or}
+use Rattle.std.specs.{Prelude.{ℕ, List, [], ◌++◌, get_or, map, Option, slice_get}, List.{flat_map}, Option.{option_map_or}}
 use Rattle.oc_base.specs.Formats.{word_for}
-use Rattle.oc_linking.specs.Parts.{Section, Symbol}
-use Rattle.oc_linking.specs.Images.{overlays}
-use Rattle.oc_linking.specs.Linking.{Export, export_of, exports}
-use Rattle.oc_neutral.specs.Objects.{Object}
-use Rattle.oc_neutral.specs.Faces.{shown_sections, shown_symbols, frame_of}
-use Rattle.oc_place.specs.declared.index.Named.{Named}
-use Rattle.oc_place.specs.Placings.{Placing}
-use Rattle.oc_link.specs.Texts.{exported_text, exports_text, image_text, section_text, sections_text}
-use Rattle.oc_link.specs.Values.{contents, given, laid, patches}
+use Rattle.oc_linking.specs.{Parts.{Section, Symbol}, Images.{overlays}, Linking.{Export, export_of, exports}}
+use Rattle.oc_neutral.specs.{Objects.{Object}, Faces.{shown_sections, shown_symbols, frame_of}}
+use Rattle.oc_place.specs.{declared.index.Named.{Named}, Placings.{Placing}}
+use Rattle.oc_link.specs.{Texts.{exported_text, exports_text, image_text, section_text, sections_text}, Values.{contents, given, laid, patches}}
 
 -- its sections without contents
 abbrev pub frames : Object → List Section

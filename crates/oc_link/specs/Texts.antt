@@ -1,13 +1,8 @@
 -- The text of a linked object (our profile): the first overflow, or the bytes of its sections and its exports.
 use Rattle.std.specs.Prelude.{ℕ, ◌+◌, ◌%◌, ◌||◌, nat_eq, not, if◌then◌else◌, List, [], ◌∷◌, ◌++◌, codes, filter, get_or, length, map, Option, Some, None}
-use Rattle.std.specs.Fmt.{decimal}
-use Rattle.std.specs.List.{enumerate_from, flat_map}
-use Rattle.std.specs.Ordering.{nat_cmp, is_lt}
-use Rattle.std.specs.Cmp.Lexicographic.{slice_cmp}
+use Rattle.std.specs.{Fmt.{decimal}, List.{enumerate_from, flat_map}, Ordering.{nat_cmp, is_lt}, Cmp.Lexicographic.{slice_cmp}}
 use Rattle.oc_base.specs.declared.format.Word.{Word}
-use Rattle.oc_linking.specs.declared.terms.Kind.{Kind}
-use Rattle.oc_linking.specs.Parts.{Section, Symbol, is_local}
-use Rattle.oc_linking.specs.Placing.{Placement}
+use Rattle.oc_linking.specs.{declared.terms.Kind.{Kind}, Parts.{Section, Symbol, is_local}, Placing.{Placement}}
 use Rattle.oc_linking.specs.Linking.{Export, Exports, Linked, Address, Size, Overflow, Image}
 use Rattle.oc_neutral.specs.Building.{is_zero}
 use Rattle.oc_dump.specs.Lines.{hex, digit_count, shown_name}

@@ -1,27 +1,14 @@
 -- The values of an object's symbols and fields where it is placed (our profile).
-use Rattle.std.specs.Prelude.{ℕ, ◌+◌, ◌<◌, Bool, if◌then◌else◌, List, [], ◌∷◌, get_or, length, map, Option, Some, None, slice_get}
-use Rattle.std.specs.Option.{option_map_or}
-use Rattle.oc_base.specs.declared.format.Word.{Word}
-use Rattle.oc_base.specs.Formats.{word_for}
-use Rattle.oc_linking.specs.declared.terms.Binding.{Binding}
-use Rattle.oc_linking.specs.declared.terms.Less.{Less}
+use Rattle.std.specs.{Prelude.{ℕ, ◌+◌, ◌<◌, Bool, if◌then◌else◌, List, [], ◌∷◌, get_or, length, map, Option, Some, None, slice_get}, Option.{option_map_or}}
+use Rattle.oc_base.specs.{declared.format.Word.{Word}, Formats.{word_for}}
+use Rattle.oc_linking.specs.{declared.terms.Binding.{Binding}, declared.terms.Less.{Less}, declared.terms.Patch.{Patch}, Numbers.{reduced}}
+use Rattle.oc_linking.specs.{Placing.{Placement, Outside, Site}, Values.{Valued, Valuation, site_of, value_of, values}}
+use Rattle.oc_linking.specs.{Images.{Patches, emptied, first_at, overflows}, Shows.{object_patches}}
 use Rattle.oc_linking.specs.declared.terms.Less.TheVariants as less
-use Rattle.oc_linking.specs.declared.terms.Patch.{Patch}
-use Rattle.oc_linking.specs.Numbers.{reduced}
-use Rattle.oc_linking.specs.Placing.{Placement, Outside, Site}
-use Rattle.oc_linking.specs.Values.{Valued, Valuation, site_of, value_of, values}
-use Rattle.oc_linking.specs.Images.{Patches, emptied, first_at, overflows}
-use Rattle.oc_linking.specs.Shows.{object_patches}
 use Rattle.oc_chains.specs.declared.field.Field.{Field}
-use Rattle.oc_neutral.specs.declared.section.Section.{Section}
-use Rattle.oc_neutral.specs.declared.symbol.Symbol.{Symbol}
-use Rattle.oc_neutral.specs.declared.reloc.Reloc.{Reloc}
-use Rattle.oc_neutral.specs.Objects.{Object}
-use Rattle.oc_neutral.specs.Faces.{contents_of, linked_object, shown_binding, shown_symbol, shown_symbols}
-use Rattle.oc_neutral.specs.Worth.{residue_at}
-use Rattle.oc_place.specs.declared.spot.Spot.{Spot}
-use Rattle.oc_place.specs.Placings.{Placing, as_site, outside_of, placement_of}
-use Rattle.oc_place.specs.Footprints.{footprint_of}
+use Rattle.oc_neutral.specs.{declared.section.Section.{Section}, declared.symbol.Symbol.{Symbol}, declared.reloc.Reloc.{Reloc}, Objects.{Object}}
+use Rattle.oc_neutral.specs.{Faces.{contents_of, linked_object, shown_binding, shown_symbol, shown_symbols}, Worth.{residue_at}}
+use Rattle.oc_place.specs.{declared.spot.Spot.{Spot}, Placings.{Placing, as_site, outside_of, placement_of}, Footprints.{footprint_of}}
 use Rattle.oc_link.specs.declared.target.TargetValue.{TargetValue}
 
 -- ... symbols

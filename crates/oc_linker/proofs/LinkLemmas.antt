@@ -4,30 +4,20 @@ use Rattle.std.specs.Option.{ForSome, IsSomeAnd}
 use Rattle.std.proofs.lemmas.Bool.{le-ltb, lt-ltb, ltb-true, ltb-false}
 use Rattle.oc_base.specs.declared.fault.Fault.{Fault}
 use Rattle.oc_linking.specs.Keeping.{all}
-use Rattle.oc_neutral.specs.Objects.{Object}
-use Rattle.oc_neutral.specs.Dialects.{Dialect}
-use Rattle.oc_neutral.specs.Invariants.{IsObject}
-use Rattle.oc_outside.specs.Causes.{Rose}
-use Rattle.oc_outside.specs.Held.{Held, file_of}
-use Rattle.oc_outside.specs.Reading.{IsAbsent}
+use Rattle.oc_neutral.specs.{Objects.{Object}, Dialects.{Dialect}, Invariants.{IsObject}}
+use Rattle.oc_outside.specs.{Causes.{Rose}, Held.{Held, file_of}, Reading.{IsAbsent}}
 use Rattle.oc_convert.specs.Identified.{identified}
 use Rattle.oc_dispatch.specs.Built.{built, IsRead}
-use Rattle.oc_place.specs.Placings.{Placing, placed_in}
-use Rattle.oc_place.specs.Footprints.{FootprintsAgree, footprint_of}
-use Rattle.oc_place.specs.Written.{Bad}
-use Rattle.oc_link.specs.Laws.{TextsAgree}
-use Rattle.oc_link.specs.Linked.{link_text_in, link_text_of}
-use Rattle.oc_runs.specs.declared.input.InputFault.{InputFault}
+use Rattle.oc_place.specs.{Placings.{Placing, placed_in}, Footprints.{FootprintsAgree, footprint_of}, Written.{Bad}}
+use Rattle.oc_link.specs.{Laws.{TextsAgree}, Linked.{link_text_in, link_text_of}}
+use Rattle.oc_runs.specs.{declared.input.InputFault.{InputFault}, Refusals.{HasRefusal, length_refusal}}
 use Rattle.oc_runs.specs.declared.input.InputFault.TheVariants as input
-use Rattle.oc_runs.specs.Refusals.{HasRefusal, length_refusal}
 use Rattle.oc_runs.specs.Reports as reports
 use Rattle.oc_runs.proofs.Refused.{some_and, short_passed}
-use Rattle.oc_linker.specs.declared.linking.LinkFault.{LinkFault}
-use Rattle.oc_linker.specs.declared.linking.LinkFault.TheVariants as fault
-use Rattle.oc_linker.specs.Causes.{Explains, ExplainsPlacement, ExplainsText, IsObjectOf, outcome_with, text_outcome}
+use Rattle.oc_linker.specs.{declared.linking.LinkFault.{LinkFault}, Causes.{Explains, ExplainsPlacement, ExplainsText, IsObjectOf, outcome_with, text_outcome}}
 use Rattle.oc_linker.specs.Outcomes.{Outcome, Absent, Refusal, Misplacement, LinkText, linking_outcome, object_outcome, object_refusal, outcome_from, outcome_of, placement_outcome}
-use Rattle.oc_linker.specs.Runs.{ComesOf, IsAbsence}
-use Rattle.oc_linker.specs.Texts.{long_text, placement_text}
+use Rattle.oc_linker.specs.{Runs.{ComesOf, IsAbsence}, Texts.{long_text, placement_text}}
+use Rattle.oc_linker.specs.declared.linking.LinkFault.TheVariants as fault
 
 -- ... the bytes of two files
 

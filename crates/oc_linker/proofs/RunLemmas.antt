@@ -1,25 +1,15 @@
 -- A run by what comes of its two files.
 use Rattle.std.proofs.Common.{◌≡◌, ℕ, ◌⊎◌, slice_get, [], ◌∷◌, inl, inr, List, length, Option, Some, None, refl, sym, ◌∙◌, ap, subst, arith}
 use Rattle.std.specs.Option.{ForSome, IsSomeAnd}
-use Rattle.oc_base.specs.declared.fault.Class.{Class}
-use Rattle.oc_base.specs.declared.fault.Class.TheVariants.{Malformed, Refused, Limit}
-use Rattle.oc_base.specs.declared.fault.Fault.{Fault}
-use Rattle.oc_base.specs.Codes.{class_of}
-use Rattle.oc_base.specs.Messages.{message_of}
-use Rattle.oc_outside.specs.Causes.{Rose}
-use Rattle.oc_outside.specs.Held.{Held}
-use Rattle.oc_outside.specs.Texts.{grown, TakesPrefix}
+use Rattle.oc_base.specs.{declared.fault.Class.{Class}, declared.fault.Class.TheVariants.{Malformed, Refused, Limit}, declared.fault.Fault.{Fault}}
+use Rattle.oc_base.specs.{Codes.{class_of}, Messages.{message_of}}
+use Rattle.oc_outside.specs.{Causes.{Rose}, Held.{Held}, Texts.{grown, TakesPrefix}}
 use Rattle.oc_runs.specs.declared.input.InputFault.TheVariants as input
-use Rattle.oc_runs.specs.Ends.{IsWordless}
-use Rattle.oc_runs.specs.Refusals.{HasRefusal}
-use Rattle.oc_runs.specs.States.{State, IsRefusal, status_by}
-use Rattle.oc_runs.specs.Texts.{Tells}
-use Rattle.oc_linker.specs.declared.linking.LinkFault.{LinkFault}
-use Rattle.oc_linker.specs.declared.linking.LinkFault.TheVariants as fault
-use Rattle.oc_linker.specs.Causes.{Explains, IsLinkReported}
+use Rattle.oc_runs.specs.{Ends.{IsWordless}, Refusals.{HasRefusal}, States.{State, IsRefusal, status_by}, Texts.{Tells}}
+use Rattle.oc_linker.specs.{declared.linking.LinkFault.{LinkFault}, Causes.{Explains, IsLinkReported}}
 use Rattle.oc_linker.specs.Outcomes.{Outcome, Absent, Refusal, Misplacement, LinkText, object_refusal, status_for}
-use Rattle.oc_linker.specs.Runs.{ComesOf, DoesLink, IsAbsence, IsExact, IsLinking}
-use Rattle.oc_linker.specs.Texts.{long_text, placement_text, words_text}
+use Rattle.oc_linker.specs.{Runs.{ComesOf, DoesLink, IsAbsence, IsExact, IsLinking}, Texts.{long_text, placement_text, words_text}}
+use Rattle.oc_linker.specs.declared.linking.LinkFault.TheVariants as fault
 use Rattle.oc_linker.proofs.LinkLemmas.{refusal_comes}
 
 -- the status of a refusal is one of three

@@ -1,25 +1,16 @@
 -- Why nothing was linked, and what is reported of it (our profile).
-use Rattle.std.specs.Prelude.{◌≡◌, ℕ, ◌<◌, ◌⊎◌, List, length, Option, None, Some, Result, Ok, Err}
-use Rattle.std.specs.Option.{ForSome, IsSomeAnd}
+use Rattle.std.specs.{Prelude.{◌≡◌, ℕ, ◌<◌, ◌⊎◌, List, length, Option, None, Some, Result, Ok, Err}, Option.{ForSome, IsSomeAnd}}
 use Rattle.oc_linking.specs.Keeping.{all}
 use Rattle.oc_neutral.specs.Objects.{Object}
-use Rattle.oc_outside.specs.Causes.{Rose}
-use Rattle.oc_outside.specs.Held.{Held, file_of}
-use Rattle.oc_outside.specs.Reading.{IsAbsent}
+use Rattle.oc_outside.specs.{Causes.{Rose}, Held.{Held, file_of}, Reading.{IsAbsent}}
 use Rattle.oc_dispatch.specs.Built.{IsRead}
-use Rattle.oc_place.specs.Placings.{Placing, placed_in}
-use Rattle.oc_place.specs.Footprints.{footprint_of}
-use Rattle.oc_place.specs.Written.{Bad}
+use Rattle.oc_place.specs.{Placings.{Placing, placed_in}, Footprints.{footprint_of}, Written.{Bad}}
 use Rattle.oc_link.specs.Linked.{link_text_of}
-use Rattle.oc_runs.specs.Refusals.{HasRefusal}
-use Rattle.oc_runs.specs.Reports.{IsReported}
-use Rattle.oc_runs.specs.Texts.{Tells, memory_text}
+use Rattle.oc_runs.specs.{Refusals.{HasRefusal}, Reports.{IsReported}, Texts.{Tells, memory_text}}
 use Rattle.oc_runs.specs.declared.input.InputFault.TheVariants as input
-use Rattle.oc_linker.specs.declared.linking.LinkFault.{LinkFault}
-use Rattle.oc_linker.specs.declared.linking.LinkFault.TheVariants as fault
-use Rattle.oc_linker.specs.Outcomes.{Outcome, LinkText, Misplacement, object_refusal}
-use Rattle.oc_linker.specs.Runs.{ComesOf, IsAbsence}
+use Rattle.oc_linker.specs.{declared.linking.LinkFault.{LinkFault}, Outcomes.{Outcome, LinkText, Misplacement, object_refusal}, Runs.{ComesOf, IsAbsence}}
 use Rattle.oc_linker.specs.Texts.{long_text, placement_text}
+use Rattle.oc_linker.specs.declared.linking.LinkFault.TheVariants as fault
 
 -- ... of an object
 

@@ -1,21 +1,13 @@
 -- What comes of an object and a placement (our profile).
 use Rattle.std.specs.Prelude.{ℕ, nat_lt, if◌then◌else◌, List, length, Option, Some, None, Result, Ok, Err}
-use Rattle.oc_base.specs.declared.code.Code.TheVariants.{UnknownFormat}
-use Rattle.oc_base.specs.declared.fault.Fault.{Fault}
-use Rattle.oc_base.specs.declared.format.Format.{Format}
-use Rattle.oc_base.specs.Codes.{class_of}
-use Rattle.oc_linking.specs.Keeping.{all}
-use Rattle.oc_linking.specs.Numbers.{or_else}
+use Rattle.oc_base.specs.{declared.code.Code.TheVariants.{UnknownFormat}, declared.fault.Fault.{Fault}, declared.format.Format.{Format}, Codes.{class_of}}
+use Rattle.oc_linking.specs.{Keeping.{all}, Numbers.{or_else}}
 use Rattle.oc_neutral.specs.Dialects.{Dialect}
-use Rattle.oc_convert.specs.Dispatched.{header_refusal, reading_refusal}
-use Rattle.oc_convert.specs.Identified.{identified}
+use Rattle.oc_convert.specs.{Dispatched.{header_refusal, reading_refusal}, Identified.{identified}}
 use Rattle.oc_dispatch.specs.Built.{built}
-use Rattle.oc_place.specs.Placings.{Placing, placed_in}
-use Rattle.oc_place.specs.Footprints.{footprint_in}
-use Rattle.oc_place.specs.Written.{Bad}
+use Rattle.oc_place.specs.{Placings.{Placing, placed_in}, Footprints.{footprint_in}, Written.{Bad}}
 use Rattle.oc_link.specs.Linked.{link_text_in}
-use Rattle.oc_runs.specs.Refusals.{length_refusal}
-use Rattle.oc_runs.specs.States.{status_by}
+use Rattle.oc_runs.specs.{Refusals.{length_refusal}, States.{status_by}}
 use Rattle.oc_linker.specs.Texts.{long_text, placement_text}
 
 -- what comes of two files

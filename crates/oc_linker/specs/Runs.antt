@@ -1,15 +1,8 @@
 -- What a run does, by its status (our profile).
-use Rattle.std.specs.Prelude.{◌≡◌, ℕ, ◌⊎◌, List, [], ◌∷◌, Option}
-use Rattle.std.specs.Option.{ForSome, IsSomeAnd}
-use Rattle.oc_outside.specs.Causes.{IsSteady, Rose}
-use Rattle.oc_outside.specs.Held.{Held, file_of}
-use Rattle.oc_outside.specs.Texts.{grown, TakesPrefix}
-use Rattle.oc_runs.specs.Ends.{IsEnd, IsWordless}
-use Rattle.oc_runs.specs.Refusals.{TellsRefusal}
-use Rattle.oc_runs.specs.States.{State, IsRefusal}
-use Rattle.oc_runs.specs.Texts.{Tells}
-use Rattle.oc_linker.specs.Outcomes.{Outcome, Absent, Misplacement, LinkText, object_refusal, outcome_of, status_for}
-use Rattle.oc_linker.specs.Texts.{words_text}
+use Rattle.std.specs.{Prelude.{◌≡◌, ℕ, ◌⊎◌, List, [], ◌∷◌, Option}, Option.{ForSome, IsSomeAnd}}
+use Rattle.oc_outside.specs.{Causes.{IsSteady, Rose}, Held.{Held, file_of}, Texts.{grown, TakesPrefix}}
+use Rattle.oc_runs.specs.{Ends.{IsEnd, IsWordless}, Refusals.{TellsRefusal}, States.{State, IsRefusal}, Texts.{Tells}}
+use Rattle.oc_linker.specs.{Outcomes.{Outcome, Absent, Misplacement, LinkText, object_refusal, outcome_of, status_for}, Texts.{words_text}}
 
 -- ... of two names
 

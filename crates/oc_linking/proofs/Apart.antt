@@ -1,13 +1,8 @@
 -- Where no field begins within another, no byte is of two fields.
 use Rattle.std.proofs.Common.{◌≡◌, ℕ, ◌-◌, ◌/◌, ◌%◌, ◌^◌, ◌<◌, ◌≤◌, inl, inr, true, false, cond, Option, Some, None, refl, arith}
-use Rattle.std.specs.Prelude.{nat_le, nat_lt}
-use Rattle.std.specs.Option.{option_and_then}
-use Rattle.std.proofs.lemmas.Bool.{cases_lt, leb-true, ltb-true}
-use Rattle.std.proofs.lemmas.Option.{none-some}
-use Rattle.oc_linking.specs.declared.terms.Patch.{Patch}
-use Rattle.oc_linking.specs.Fits.{bytes_of, stored}
-use Rattle.oc_linking.specs.Images.{byte_by}
-use Rattle.oc_linking.specs.Shows.{Apart}
+use Rattle.std.specs.{Prelude.{nat_le, nat_lt}, Option.{option_and_then}}
+use Rattle.std.proofs.lemmas.{Bool.{cases_lt, leb-true, ltb-true}, Option.{none-some}}
+use Rattle.oc_linking.specs.{declared.terms.Patch.{Patch}, Fits.{bytes_of, stored}, Images.{byte_by}, Shows.{Apart}}
 
 -- a byte that a field stores is one of its bytes
 stored_from : (back : ℕ) (q : Patch) (x : ℕ) → stored back q ≡ Some x → back < bytes_of q.width

@@ -1,8 +1,7 @@
 -- Bytes of numbers.
 use Rattle.std.proofs.Common.{◌≡◌, ℕ, zero, suc, ◌+◌, ◌*◌, ◌/◌, ◌%◌, ◌^◌, bit_and, refl, sym, ◌∙◌, ap, arith}
 use Rattle.std.proofs.Math.Nat.{pow-suc}
-use Rattle.std.proofs.lemmas.Nat.{pow-add, mod-pow-add}
-use Rattle.std.proofs.lemmas.Grind.{and_numeral}
+use Rattle.std.proofs.lemmas.{Nat.{pow-add, mod-pow-add}, Grind.{and_numeral}}
 
 -- k bytes are 8 k bits
 pub bits_of_bytes : (k : ℕ) → 2 ^ (8 * k) ≡ 256 ^ k

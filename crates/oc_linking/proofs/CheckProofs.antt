@@ -2,8 +2,7 @@
 use Rattle.std.proofs.Common.{refl, arith}
 use Rattle.std.proofs.lemmas.Int.{ints}
 use Rattle.oc_base.specs.declared.format.Word.TheVariants.{W32, W64}
-use Rattle.oc_linking.specs.declared.terms.Width.TheVariants.{One, Two, Four, Eight}
-use Rattle.oc_linking.specs.Borders.{ChecksAtBorders, SignedFitsItsType}
+use Rattle.oc_linking.specs.{declared.terms.Width.TheVariants.{One, Two, Four, Eight}, Borders.{ChecksAtBorders, SignedFitsItsType}}
 
 pub checks_at_borders : ChecksAtBorders
 checks_at_borders = record { words_of_32 = refl; words_of_64 = refl }

@@ -1,8 +1,7 @@
 -- The first fault that is computed is the first.
 use Rattle.std.proofs.Common.{◌≡◌, ℕ, zero, suc, ◌<◌, inl, inr, true, false, cond, List, [], ◌∷◌, Option, Some, None, refl, sym, ◌∙◌, ap, subst, arith}
 use Rattle.std.specs.Prelude.{slice_get}
-use Rattle.std.proofs.lemmas.Bool.{cases_eq, true≢false}
-use Rattle.std.proofs.lemmas.Option.{none-some, same_Some}
+use Rattle.std.proofs.lemmas.{Bool.{cases_eq, true≢false}, Option.{none-some, same_Some}}
 use Rattle.oc_base.specs.declared.fault.Fault.{Fault}
 use Rattle.oc_linking.specs.Numbers.{or_else, first_upto}
 use Rattle.oc_linking.specs.FirstFault.{Condition, first_broken, Stage, fault_of, stage_fault, first_fault, Broken, JudgedBefore, IsFirstFault, FirstFaultIsFirst, NoFaultNoneBroken}

@@ -1,15 +1,11 @@
 -- Filling the fields over the constants of folded ones fills all of them.
 use Rattle.std.proofs.Common.{◌≡◌, ℕ, zero, suc, ◌+◌, ◌-◌, ◌/◌, ◌%◌, ◌^◌, Bool, true, false, cond, List, [], ◌∷◌, length, Option, Some, None, refl, sym, ◌∙◌, ap, arith}
-use Rattle.std.specs.Prelude.{nat_le, nat_lt}
-use Rattle.std.specs.Option.{option_map, option_and_then, unwrap_or}
+use Rattle.std.specs.{Prelude.{nat_le, nat_lt}, Option.{option_map, option_and_then, unwrap_or}}
 use mathlib.Core.Path.{fun_ext}
-use Rattle.oc_linking.specs.declared.terms.Patch.{Patch}
-use Rattle.oc_linking.specs.Numbers.{or_else, first_from}
-use Rattle.oc_linking.specs.Fits.{bytes_of, stored}
+use Rattle.oc_linking.specs.{declared.terms.Patch.{Patch}, Numbers.{or_else, first_from}, Fits.{bytes_of, stored}}
 use Rattle.oc_linking.specs.Images.{Patches, byte_by, byte_upto, overlay, overlays, first_at, first_field}
 use Rattle.oc_linking.specs.Shows.{blank, Apart, live_of, under_of, lives, unders}
-use Rattle.oc_linking.proofs.Upto.{first_upto_from}
-use Rattle.oc_linking.proofs.Apart.{same_start}
+use Rattle.oc_linking.proofs.{Upto.{first_upto_from}, Apart.{same_start}}
 
 -- of one byte: what all fields, the ones that are not folded, and what stands under them give
 pub data One : Option ℕ → Option ℕ → Option ℕ → Type 0 where

@@ -1,17 +1,12 @@
 -- The laws.
 use Rattle.std.proofs.Common.{◌≡◌, ℕ, ◌+◌, Bool, true, false, List, [], Option, Some, None, refl, sym, ◌∙◌, ap, subst, arith}
-use Rattle.std.specs.Prelude.{not, map, length}
-use Rattle.std.specs.Option.{option_map, unwrap_or}
+use Rattle.std.specs.{Prelude.{not, map, length}, Option.{option_map, unwrap_or}}
 use Rattle.std.proofs.lemmas.Bool.{true≢false}
 use Rattle.oc_base.specs.declared.format.Word.{Word}
-use Rattle.oc_linking.specs.declared.terms.Patch.{Patch}
-use Rattle.oc_linking.specs.Fits.{fits}
-use Rattle.oc_linking.specs.Images.{Patches, overlays, overflows, passes_at, first_field}
+use Rattle.oc_linking.specs.{declared.terms.Patch.{Patch}, Fits.{fits}, Images.{Patches, overlays, overflows, passes_at, first_field}}
 use Rattle.oc_linking.specs.Linking.{Exports, Linked, Overflow, Image, linked_by}
 use Rattle.oc_linking.specs.Laws.{Before, FailsAt, OverflowIsLeast, ImageIsWhole, FieldsHoldResidues, OtherBytesStay, ZerosPlaceAll}
-use Rattle.oc_linking.proofs.Overlay.{lengths-overlays}
-use Rattle.oc_linking.proofs.Searching.{Hit, first_field_none, first_field_found}
-use Rattle.oc_linking.proofs.Storing.{field_holds, others_stay}
+use Rattle.oc_linking.proofs.{Overlay.{lengths-overlays}, Searching.{Hit, first_field_none, first_field_found}, Storing.{field_holds, others_stay}}
 use Rattle.oc_linking.proofs.Valid.{zeros_is}
 
 -- a test that is denied

@@ -3,8 +3,7 @@ use Rattle.std.proofs.Common.{◌≡◌, ℕ, zero, suc, true, false, cond, List
 use mathlib.Core.Path.{fun_ext}
 use Rattle.std.specs.Prelude.{slice_get, bytes_eq}
 use Rattle.std.proofs.lemmas.Option.{none-some, same_Some}
-use Rattle.oc_linking.specs.Numbers.{or_else}
-use Rattle.oc_linking.specs.Parts.{Symbol, by_name}
+use Rattle.oc_linking.specs.{Numbers.{or_else}, Parts.{Symbol, by_name}}
 
 -- each symbol of xs that gives something has one of its name in ys that gives the same
 abbrev pub GivenIn : {X : Type 0} → (Symbol → Option X) → (Symbol → Option X) → List Symbol → List Symbol → Type 0

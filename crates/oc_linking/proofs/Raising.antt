@@ -1,13 +1,9 @@
 -- Symbols that name sections by positions among the kept ones, as symbols that name them by positions among the carried ones (our profile).
 use Rattle.std.specs.Prelude.{Bool, List}
-use Rattle.oc_linking.specs.declared.terms.Value.{Value}
+use Rattle.oc_linking.specs.{declared.terms.Value.{Value}, declared.terms.Fallback.{Fallback}, declared.terms.Binding.{Binding}}
+use Rattle.oc_linking.specs.{declared.terms.Binding.TheVariants.{Local, Global, Undefined, Common, Weak}, Parts.{Symbol}, Keeping.{carried_of}}
 use Rattle.oc_linking.specs.declared.terms.Value.TheVariants as value
-use Rattle.oc_linking.specs.declared.terms.Fallback.{Fallback}
 use Rattle.oc_linking.specs.declared.terms.Fallback.TheVariants as fallback
-use Rattle.oc_linking.specs.declared.terms.Binding.{Binding}
-use Rattle.oc_linking.specs.declared.terms.Binding.TheVariants.{Local, Global, Undefined, Common, Weak}
-use Rattle.oc_linking.specs.Parts.{Symbol}
-use Rattle.oc_linking.specs.Keeping.{carried_of}
 
 -- a value
 abbrev pub raised_value : List Bool → Value → Value

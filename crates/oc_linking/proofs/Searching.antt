@@ -1,13 +1,8 @@
 -- A search gives the least that passes, and nothing only where nothing passes.
 use Rattle.std.proofs.Common.{◌≡◌, ℕ, zero, suc, ◌+◌, ◌<◌, ◌≤◌, inl, inr, Bool, true, false, cond, List, [], ◌∷◌, length, Some, None, refl, sym, ◌∙◌, subst, arith}
-use Rattle.std.specs.Prelude.{slice_get}
-use Rattle.std.specs.Option.{option_map}
-use Rattle.std.proofs.lemmas.Bool.{cases_eq, true≢false}
-use Rattle.std.proofs.lemmas.Option.{none-some, same_Some}
-use Rattle.oc_linking.specs.declared.terms.Patch.{Patch}
-use Rattle.oc_linking.specs.Numbers.{or_else, first_from}
-use Rattle.oc_linking.specs.Images.{Patches, passes_at, first_at, first_field}
-use Rattle.oc_linking.specs.Laws.{Before}
+use Rattle.std.specs.{Prelude.{slice_get}, Option.{option_map}}
+use Rattle.std.proofs.lemmas.{Bool.{cases_eq, true≢false}, Option.{none-some, same_Some}}
+use Rattle.oc_linking.specs.{declared.terms.Patch.{Patch}, Numbers.{or_else, first_from}, Images.{Patches, passes_at, first_at, first_field}, Laws.{Before}}
 
 -- what is found passes, and no number before it does
 pub first_from_found : (test : ℕ → Bool) (start n i : ℕ) → first_from test start n ≡ Some i

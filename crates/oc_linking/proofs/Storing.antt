@@ -1,21 +1,12 @@
 -- What an image holds: in each field its residue, lowest byte first, and elsewhere the contents.
 use Rattle.std.proofs.Common.{◌≡◌, ℕ, zero, suc, ◌+◌, ◌-◌, ◌/◌, ◌%◌, ◌^◌, ◌<◌, ◌≤◌, inl, inr, true, cond, List, [], ◌∷◌, length, get_or, Option, Some, None, refl, sym, ◌∙◌, ap, subst, arith}
-use Rattle.std.specs.Prelude.{nat_le}
-use Rattle.std.specs.Option.{option_and_then, unwrap_or}
+use Rattle.std.specs.{Prelude.{nat_le}, Option.{option_and_then, unwrap_or}}
 use Rattle.std.proofs.Math.Nat.{pow-suc, div-div-eq-div-mul}
-use Rattle.std.proofs.lemmas.Bool.{cases_eq, le-leb, lt-ltb}
-use Rattle.std.proofs.lemmas.Option.{none-some}
+use Rattle.std.proofs.lemmas.{Bool.{cases_eq, le-leb, lt-ltb}, Option.{none-some}}
 use Rattle.oc_base.specs.Numbers.{number_at}
-use Rattle.oc_linking.specs.declared.terms.Width.{Width}
-use Rattle.oc_linking.specs.declared.terms.Width.TheVariants.{One, Two, Four, Eight}
-use Rattle.oc_linking.specs.declared.terms.Patch.{Patch}
-use Rattle.oc_linking.specs.Numbers.{or_else, first_upto}
-use Rattle.oc_linking.specs.Fits.{bytes_of, span, stored}
-use Rattle.oc_linking.specs.Images.{byte_by, byte_upto, overlay}
-use Rattle.oc_linking.specs.Shows.{Apart}
-use Rattle.oc_linking.proofs.Upto.{first_upto_from}
-use Rattle.oc_linking.proofs.Apart.{byte_from, same_start}
-use Rattle.oc_linking.proofs.Bytes.{mod-byte}
+use Rattle.oc_linking.specs.{declared.terms.Width.{Width}, declared.terms.Width.TheVariants.{One, Two, Four, Eight}, declared.terms.Patch.{Patch}}
+use Rattle.oc_linking.specs.{Numbers.{or_else, first_upto}, Fits.{bytes_of, span, stored}, Images.{byte_by, byte_upto, overlay}, Shows.{Apart}}
+use Rattle.oc_linking.proofs.{Upto.{first_upto_from}, Apart.{byte_from, same_start}, Bytes.{mod-byte}}
 
 -- of items of which one is there, that one is the first
 first_upto_one : (item : ℕ → Option ℕ) (n k x : ℕ) → item k ≡ Some x → k < n → ((j y : ℕ) → item j ≡ Some y → j ≡ k) → first_upto item n ≡ Some x

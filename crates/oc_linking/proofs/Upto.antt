@@ -1,7 +1,6 @@
 -- The first that is there, and the first that passes.
 use Rattle.std.proofs.Common.{◌≡◌, ℕ, zero, suc, ◌+◌, ◌-◌, ◌<◌, inl, inr, Bool, false, cond, Option, Some, None, refl, ◌∙◌, ap, subst, arith}
-use Rattle.std.proofs.lemmas.Bool.{cases_eq}
-use Rattle.std.proofs.lemmas.Option.{none-some}
+use Rattle.std.proofs.lemmas.{Bool.{cases_eq}, Option.{none-some}}
 use Rattle.oc_linking.specs.Numbers.{or_else, first_upto, first_from}
 
 -- item i is the first, where none before it is there

@@ -1,13 +1,7 @@
 -- When two files link alike without an object between them (our profile).
 use Rattle.std.specs.Prelude.{◌≡◌, ℕ, ◌+◌, ◌<◌, ◌≤◌, List, length, slice_get, get_or, Option, Some}
-use Rattle.oc_linking.specs.declared.terms.Keep.{Keep}
-use Rattle.oc_linking.specs.declared.terms.Patch.{Patch}
-use Rattle.oc_linking.specs.Fits.{bytes_of}
-use Rattle.oc_linking.specs.Parts.{Symbol}
-use Rattle.oc_linking.specs.Keeping.{all}
-use Rattle.oc_linking.specs.Placing.{Placement, Outside}
-use Rattle.oc_linking.specs.Rules.{Rules}
-use Rattle.oc_linking.specs.Linking.{contents_in, patches_in, exports_in}
+use Rattle.oc_linking.specs.{declared.terms.Keep.{Keep}, declared.terms.Patch.{Patch}, Fits.{bytes_of}, Parts.{Symbol}, Keeping.{all}}
+use Rattle.oc_linking.specs.{Placing.{Placement, Outside}, Rules.{Rules}, Linking.{contents_in, patches_in, exports_in}}
 
 -- the byte is in no field
 abbrev pub IsFree : (ℕ → Option Patch) → ℕ → Type 0

@@ -1,12 +1,8 @@
 -- What fits a field, and what is stored in it (i386 and x86-64 psABI, "Relocation Types"; PE/COFF, "Type Indicators"; else our profile).
 use Rattle.std.specs.Prelude.{ℕ, ◌+◌, ◌/◌, ◌%◌, ◌^◌, Bool, true, ◌||◌, nat_lt, nat_le, if◌then◌else◌, Option, Some, None}
 use Rattle.oc_base.specs.declared.format.Word.{Word}
-use Rattle.oc_linking.specs.declared.terms.Width.{Width}
-use Rattle.oc_linking.specs.declared.terms.Width.TheVariants.{One, Two, Four, Eight}
-use Rattle.oc_linking.specs.declared.terms.Check.{Check}
-use Rattle.oc_linking.specs.declared.terms.Check.TheVariants.{Wrap, Signed, Unsigned, Either}
-use Rattle.oc_linking.specs.declared.terms.Patch.{Patch}
-use Rattle.oc_linking.specs.Numbers.{modulus}
+use Rattle.oc_linking.specs.{declared.terms.Width.{Width}, declared.terms.Width.TheVariants.{One, Two, Four, Eight}, declared.terms.Check.{Check}}
+use Rattle.oc_linking.specs.{declared.terms.Check.TheVariants.{Wrap, Signed, Unsigned, Either}, declared.terms.Patch.{Patch}, Numbers.{modulus}}
 
 -- the bytes of a field
 abbrev pub bytes_of : Width → ℕ

@@ -1,7 +1,6 @@
 -- Residues of a word (our profile: addresses, addends and values are taken modulo 2^W), and the first of several.
 use Rattle.std.specs.Prelude.{ℕ, zero, suc, ◌+◌, ◌-◌, ◌%◌, ◌^◌, Bool, if◌then◌else◌, Option, Some, None}
-use Rattle.oc_base.specs.declared.format.Word.{Word}
-use Rattle.oc_base.specs.declared.format.Word.TheVariants.{W32, W64}
+use Rattle.oc_base.specs.{declared.format.Word.{Word}, declared.format.Word.TheVariants.{W32, W64}}
 
 -- 2^W, where addresses have W bits
 abbrev pub modulus : Word → ℕ

@@ -1,12 +1,8 @@
 -- What the plain program links, and what its answer means (our profile).
-use Rattle.std.specs.Prelude.{ℕ, ◌&&◌, eqb, if◌then◌else◌, List, [], ◌∷◌, Option, Some, None, map}
-use Rattle.std.specs.Global.{Vec}
-use Rattle.oc_linking.specs.declared.terms.Patch.{Patch}
-use Rattle.oc_linking.specs.declared.plain.PlacedPatch.{PlacedPatch}
-use Rattle.oc_linking.specs.declared.plain.Outcome.{Outcome}
-use Rattle.oc_linking.specs.declared.plain.Outcome.TheVariants as outcome
-use Rattle.oc_linking.specs.Images.{Patches}
+use Rattle.std.specs.{Prelude.{ℕ, ◌&&◌, eqb, if◌then◌else◌, List, [], ◌∷◌, Option, Some, None, map}, Global.{Vec}}
+use Rattle.oc_linking.specs.{declared.terms.Patch.{Patch}, declared.plain.PlacedPatch.{PlacedPatch}, declared.plain.Outcome.{Outcome}, Images.{Patches}}
 use Rattle.oc_linking.specs.Linking.{Exports, Linked, Overflow, Image}
+use Rattle.oc_linking.specs.declared.plain.Outcome.TheVariants as outcome
 
 -- the first field of the list at a place
 abbrev pub patch_at : List PlacedPatch → ℕ → ℕ → Option Patch

@@ -1,35 +1,18 @@
 -- Listings of worked Coff files, as an independent program prints them.
 use Rattle.std.proofs.Common.{◌≡◌, refl}
-use Rattle.std.specs.Prelude.{codes}
-use Rattle.std.specs.Fmt.{digits}
-use Rattle.std.specs.Prelude.{[]}
-use Rattle.oc_algebra.specs.Residues.{residue_of}
-use Rattle.oc_algebra.specs.Fields.{extended}
+use Rattle.std.specs.{Prelude.{codes}, Fmt.{digits}, Prelude.{[]}}
+use Rattle.oc_algebra.specs.{Residues.{residue_of}, Fields.{extended}}
 use Rattle.oc_base.specs.Numbers.{number_at}
-use Rattle.oc_neutral.specs.Coff.Kinds.{coff_kind, coff_tag}
-use Rattle.oc_coff.specs.FileHeader.{file_header_of}
-use Rattle.oc_coff.specs.SectionHeader.{section_header_at}
-use Rattle.oc_coff.specs.SymbolEntry.{symbol_at}
-use Rattle.oc_coff.specs.SectionAux.{section_aux_at}
-use Rattle.oc_coff.specs.WeakAux.{weak_aux_at}
-use Rattle.oc_coff.specs.Relocation.{relocation_at}
-use Rattle.oc_coff.specs.Tables.{section_table, slot_at, strings_of, entries_of, section_tables, tables_of}
-use Rattle.oc_coff.specs.Names.{string_at, section_name, symbol_name}
-use Rattle.oc_coff.specs.Entries.{entries_in}
-use Rattle.oc_coff.specs.Comdat.{definition_in, led_key, key_in}
-use Rattle.oc_coff.specs.Sections.{kind_in, carried_of, carried_in, position_of}
-use Rattle.oc_coff.specs.Symbols.{value_of, binding_of, symbol_of, symbols_in}
-use Rattle.oc_coff.specs.Targets.{aim_in}
-use Rattle.oc_coff.specs.Fields.{field_by, fields_in}
-use Rattle.oc_coff.specs.declared.form.CoffForm.TheVariants.{Usual32, Usual64, Big32}
-use Rattle.oc_neutral.specs.Dialects.{is_folded, looks_in, patches_in}
+use Rattle.oc_neutral.specs.{Coff.Kinds.{coff_kind, coff_tag}, Dialects.{is_folded, looks_in, patches_in}}
+use Rattle.oc_coff.specs.{FileHeader.{file_header_of}, SectionHeader.{section_header_at}, SymbolEntry.{symbol_at}, SectionAux.{section_aux_at}}
+use Rattle.oc_coff.specs.{WeakAux.{weak_aux_at}, Relocation.{relocation_at}, Tables.{section_table, slot_at, strings_of, entries_of, section_tables, tables_of}}
+use Rattle.oc_coff.specs.{Names.{string_at, section_name, symbol_name}, Entries.{entries_in}, Comdat.{definition_in, led_key, key_in}}
+use Rattle.oc_coff.specs.{Sections.{kind_in, carried_of, carried_in, position_of}, Symbols.{value_of, binding_of, symbol_of, symbols_in}, Targets.{aim_in}}
+use Rattle.oc_coff.specs.{Fields.{field_by, fields_in}, declared.form.CoffForm.TheVariants.{Usual32, Usual64, Big32}, Rules.{coff_dialect}}
 use Rattle.oc_dump.specs.Lines.{hex}
-use Rattle.oc_coff.specs.Rules.{coff_dialect}
-use Rattle.oc_coff.proofs.BigFiles.{big_call}
-use Rattle.oc_coff.proofs.WorkedFiles.{call, manifold, msvc, nearer}
+use Rattle.oc_coff.proofs.{BigFiles.{big_call}, WorkedFiles.{call, manifold, msvc, nearer}}
 use Rattle.oc_listings.specs.declared.listing.Listing.TheVariants.{Header, Sections, Relocations}
-use Rattle.oc_listings.specs.Texts.{field_text, format_text, header_text, line_text, section_text}
-use Rattle.oc_listings.specs.Listings.{listing_of}
+use Rattle.oc_listings.specs.{Texts.{field_text, format_text, header_text, line_text, section_text}, Listings.{listing_of}}
 
 call-header : listing_of (coff_dialect Usual32) call Header ≡ codes "format coff32\nsections 1\nsymbols 2\nrelocations 1\nbytes 152\n"
 unfolding listing_of header_text format_text line_text section_text field_text hex digits is_folded looks_in patches_in file_header_of section_header_at symbol_at section_aux_at weak_aux_at relocation_at section_table slot_at strings_of entries_of section_tables tables_of string_at section_name symbol_name entries_in definition_in led_key key_in kind_in carried_of carried_in number_at coff_kind coff_tag position_of value_of binding_of symbol_of symbols_in aim_in field_by fields_in residue_of extended

@@ -1,36 +1,19 @@
 -- Listings of worked Elf files, as an independent program prints them.
 use Rattle.std.proofs.Common.{◌≡◌, refl}
-use Rattle.std.specs.Prelude.{codes}
-use Rattle.std.specs.Fmt.{digits}
-use Rattle.std.specs.Prelude.{[]}
-use Rattle.oc_elf.specs.Fields.{field_at, field_by, rel_at, target_of}
+use Rattle.std.specs.{Prelude.{codes}, Fmt.{digits}, Prelude.{[]}}
+use Rattle.oc_elf.specs.{Fields.{field_at, field_by, rel_at, target_of}, CarriedSections.{section_of, section_with}}
+use Rattle.oc_elf.specs.{CarriedSymbols.{binding_of, is_passed, symbol_by, symbol_of, symbol_with}, Ehdr.{ehdr_in}, Elf.{fault_in}, Entries.{name_at}}
+use Rattle.oc_elf.specs.{Frames.{framed, header_of, headers_of}, Groups.{key_of}, Names.{name_in, table_bytes}, Rel.{rel_in}}
+use Rattle.oc_elf.specs.{RelocRules.{is_nameable, is_target_for}, SectionRules.{is_bad_member, is_good_group, is_good_symtab, is_good_table, is_left_out}}
+use Rattle.oc_elf.specs.{Shdr.{shdr_in}, Sym.{sym_in}, SymbolRules.{is_odd_symbol}, Tables.{entry_of, reloc_of}}
+use Rattle.oc_elf.specs.{declared.class.ElfClass.TheVariants.{Class32, Class64, Big32}, Elf.{elf_dialect}}
 use Rattle.oc_base.specs.Numbers.{number_at}
-use Rattle.oc_neutral.specs.Elf.Kinds.{elf_kind}
-use Rattle.oc_elf.specs.CarriedSections.{section_of, section_with}
-use Rattle.oc_elf.specs.CarriedSymbols.{binding_of, is_passed, symbol_by, symbol_of, symbol_with}
-use Rattle.oc_elf.specs.Ehdr.{ehdr_in}
-use Rattle.oc_elf.specs.Elf.{fault_in}
-use Rattle.oc_elf.specs.Entries.{name_at}
-use Rattle.oc_elf.specs.Frames.{framed, header_of, headers_of}
-use Rattle.oc_elf.specs.Groups.{key_of}
-use Rattle.oc_elf.specs.Names.{name_in, table_bytes}
-use Rattle.oc_elf.specs.Rel.{rel_in}
-use Rattle.oc_elf.specs.RelocRules.{is_nameable, is_target_for}
-use Rattle.oc_elf.specs.SectionRules.{is_bad_member, is_good_group, is_good_symtab, is_good_table, is_left_out}
-use Rattle.oc_elf.specs.Shdr.{shdr_in}
-use Rattle.oc_elf.specs.Sym.{sym_in}
-use Rattle.oc_elf.specs.SymbolRules.{is_odd_symbol}
-use Rattle.oc_elf.specs.Tables.{entry_of, reloc_of}
-use Rattle.oc_elf.specs.declared.class.ElfClass.TheVariants.{Class32, Class64, Big32}
-use Rattle.oc_neutral.specs.Dialects.{is_folded, looks_in, patches_in}
+use Rattle.oc_neutral.specs.{Elf.Kinds.{elf_kind}, Dialects.{is_folded, looks_in, patches_in}}
 use Rattle.oc_dump.specs.Lines.{hex}
-use Rattle.oc_elf.specs.Elf.{elf_dialect}
 use Rattle.oc_elf_read.proofs.Objects.{call_32, grouped, weak_64, common_12, told}
 use Rattle.oc_listings.specs.declared.listing.Listing.TheVariants.{Header, Sections, Relocations}
-use Rattle.oc_listings.specs.Texts.{field_text, format_text, header_text, line_text, section_text}
-use Rattle.oc_listings.specs.Listings.{listing_of}
-use Rattle.oc_algebra.specs.Residues.{residue_of}
-use Rattle.oc_algebra.specs.Fields.{extended}
+use Rattle.oc_listings.specs.{Texts.{field_text, format_text, header_text, line_text, section_text}, Listings.{listing_of}}
+use Rattle.oc_algebra.specs.{Residues.{residue_of}, Fields.{extended}}
 
 call_32-header : listing_of (elf_dialect Class32) call_32 Header ≡ codes "format elf32\nsections 1\nsymbols 2\nrelocations 1\nbytes 432\n"
 unfolding listing_of header_text format_text line_text section_text field_text hex digits is_folded looks_in patches_in number_at elf_kind ehdr_in shdr_in table_bytes name_in header_of headers_of framed is_bad_member is_good_group is_left_out is_good_symtab is_good_table sym_in entry_of name_at key_of section_with section_of binding_of is_passed symbol_with symbol_by symbol_of is_odd_symbol rel_in reloc_of is_nameable is_target_for fault_in target_of field_by rel_at field_at residue_of extended

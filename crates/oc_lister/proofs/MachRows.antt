@@ -1,34 +1,19 @@
 -- Listings of worked Mach files, as an independent program prints them.
 use Rattle.std.proofs.Common.{◌≡◌, refl}
-use Rattle.std.specs.Prelude.{codes}
-use Rattle.std.specs.Fmt.{digits}
-use Rattle.std.specs.Prelude.{[]}
-use Rattle.oc_base.specs.Numbers.{number_at}
-use Rattle.oc_algebra.specs.Fields.{extended}
-use Rattle.oc_algebra.specs.Residues.{residue_of}
-use Rattle.oc_neutral.specs.Mach.Kinds.{mach_kind, mach_tag}
-use Rattle.oc_macho.specs.MachHeader.{mach_header_of}
-use Rattle.oc_macho.specs.LoadCommand.{load_command_at}
-use Rattle.oc_macho.specs.SegmentCommand.{segment_command_at}
-use Rattle.oc_macho.specs.SymtabCommand.{symtab_command_at}
-use Rattle.oc_macho.specs.SectionHeader.{section_header_at}
-use Rattle.oc_macho.specs.Nlist.{nlist_at}
-use Rattle.oc_macho.specs.RelocationInfo.{relocation_info_at, relocation_info_of, reference_of, scattered_of}
-use Rattle.oc_macho.specs.Tables.{section_table, tables_of}
-use Rattle.oc_macho.specs.Sections.{kind_of, contents_of, section_of, sections_in, holder_of}
-use Rattle.oc_macho.specs.Symbols.{name_at, is_own, binding_of, symbol_of, symbols_by}
-use Rattle.oc_macho.specs.Entries.{row_for, item_at, is_pinned}
-use Rattle.oc_macho.specs.Aims.{aim_in}
-use Rattle.oc_macho.specs.Fields.{field_parts_by, added_by, field_of, item_for, fields_in}
-use Rattle.oc_macho.specs.Rules.{symbols_in}
-use Rattle.oc_base.specs.declared.format.Word.TheVariants.{W32, W64}
-use Rattle.oc_neutral.specs.Dialects.{is_folded, looks_in, patches_in}
+use Rattle.std.specs.{Prelude.{codes}, Fmt.{digits}, Prelude.{[]}}
+use Rattle.oc_base.specs.{Numbers.{number_at}, declared.format.Word.TheVariants.{W32, W64}}
+use Rattle.oc_algebra.specs.{Fields.{extended}, Residues.{residue_of}}
+use Rattle.oc_neutral.specs.{Mach.Kinds.{mach_kind, mach_tag}, Dialects.{is_folded, looks_in, patches_in}}
+use Rattle.oc_macho.specs.{MachHeader.{mach_header_of}, LoadCommand.{load_command_at}, SegmentCommand.{segment_command_at}, SymtabCommand.{symtab_command_at}}
+use Rattle.oc_macho.specs.{SectionHeader.{section_header_at}, Nlist.{nlist_at}}
+use Rattle.oc_macho.specs.{RelocationInfo.{relocation_info_at, relocation_info_of, reference_of, scattered_of}, Tables.{section_table, tables_of}}
+use Rattle.oc_macho.specs.{Sections.{kind_of, contents_of, section_of, sections_in, holder_of}, Symbols.{name_at, is_own, binding_of, symbol_of, symbols_by}}
+use Rattle.oc_macho.specs.{Entries.{row_for, item_at, is_pinned}, Aims.{aim_in}, Fields.{field_parts_by, added_by, field_of, item_for, fields_in}}
+use Rattle.oc_macho.specs.{Rules.{symbols_in}, Rules.{mach_dialect}}
 use Rattle.oc_dump.specs.Lines.{hex}
-use Rattle.oc_macho.specs.Rules.{mach_dialect}
 use Rattle.oc_macho.proofs.WorkedFiles.{called, called32, behind, difference, folded}
 use Rattle.oc_listings.specs.declared.listing.Listing.TheVariants.{Header, Sections, Relocations}
-use Rattle.oc_listings.specs.Texts.{field_text, format_text, header_text, line_text, section_text}
-use Rattle.oc_listings.specs.Listings.{listing_of}
+use Rattle.oc_listings.specs.{Texts.{field_text, format_text, header_text, line_text, section_text}, Listings.{listing_of}}
 
 called-header : listing_of (mach_dialect W64) called Header ≡ codes "format mac64\nsections 1\nsymbols 2\nrelocations 1\nbytes 352\n"
 unfolding listing_of header_text format_text line_text section_text field_text hex digits is_folded looks_in patches_in number_at residue_of extended mach_kind mach_tag mach_header_of load_command_at segment_command_at symtab_command_at section_header_at nlist_at relocation_info_at section_table tables_of kind_of contents_of section_of sections_in relocation_info_of reference_of scattered_of name_at is_own binding_of symbol_of symbols_by row_for item_at is_pinned symbols_in holder_of aim_in field_parts_by added_by field_of item_for fields_in

@@ -1,31 +1,18 @@
 -- Listings of worked Omf files, as an independent program prints them.
 use Rattle.std.proofs.Common.{◌≡◌, refl}
-use Rattle.std.specs.Prelude.{codes}
-use Rattle.std.specs.Fmt.{digits}
-use Rattle.std.specs.Prelude.{[]}
+use Rattle.std.specs.{Prelude.{codes}, Fmt.{digits}, Prelude.{[]}}
 use Rattle.oc_base.specs.Numbers.{number_at}
-use Rattle.oc_algebra.specs.Residues.{residue_of}
-use Rattle.oc_algebra.specs.Fields.{extended}
-use Rattle.oc_neutral.specs.Omf.Kinds.{omf_kind}
+use Rattle.oc_algebra.specs.{Residues.{residue_of}, Fields.{extended}}
+use Rattle.oc_neutral.specs.{Omf.Kinds.{omf_kind}, Dialects.{is_folded, looks_in, patches_in}}
 use Rattle.oc_omf.specs.Cursor.{number_read, index_read, name_read, each_read}
 use Rattle.oc_omf.specs.Structures.{segment_read, member_read, group_read, base_read, public_read, external_read, communal_length, communal_read, piece_read, method_read, thread_read, frame_read, target_read, displacement_read, fixup_read, subrecord_read}
-use Rattle.oc_omf.specs.Entries.{said_by, places_in, entries_in}
-use Rattle.oc_omf.specs.Tables.{tables_of}
-use Rattle.oc_omf.specs.Sections.{contents_of, sections_in}
-use Rattle.oc_omf.specs.Symbols.{mentions_in, binding_of, symbols_in}
-use Rattle.oc_omf.specs.Fixups.{subrecords_upto, fixed_in}
-use Rattle.oc_omf.specs.Targets.{meaning_of}
-use Rattle.oc_omf.specs.Fields.{field_by, fields_in}
-use Rattle.oc_omf.specs.SectionFaults.{all_bytes}
-use Rattle.oc_omf.specs.SymbolFaults.{symbol_table}
-use Rattle.oc_omf.specs.Rules.{stages_of, fault_of}
-use Rattle.oc_neutral.specs.Dialects.{is_folded, looks_in, patches_in}
+use Rattle.oc_omf.specs.{Entries.{said_by, places_in, entries_in}, Tables.{tables_of}, Sections.{contents_of, sections_in}}
+use Rattle.oc_omf.specs.{Symbols.{mentions_in, binding_of, symbols_in}, Fixups.{subrecords_upto, fixed_in}, Targets.{meaning_of}, Fields.{field_by, fields_in}}
+use Rattle.oc_omf.specs.{SectionFaults.{all_bytes}, SymbolFaults.{symbol_table}, Rules.{stages_of, fault_of}, Rules.{omf_dialect}}
 use Rattle.oc_dump.specs.Lines.{hex}
-use Rattle.oc_omf.specs.Rules.{omf_dialect}
 use Rattle.oc_omf.proofs.WorkedFiles.{call, threads, assorted}
 use Rattle.oc_listings.specs.declared.listing.Listing.TheVariants.{Header, Sections, Relocations}
-use Rattle.oc_listings.specs.Texts.{field_text, format_text, header_text, line_text, section_text}
-use Rattle.oc_listings.specs.Listings.{listing_of}
+use Rattle.oc_listings.specs.{Texts.{field_text, format_text, header_text, line_text, section_text}, Listings.{listing_of}}
 
 call-header : listing_of (omf_dialect) call Header ≡ codes "format omf\nsections 1\nsymbols 2\nrelocations 1\nbytes 104\n"
 unfolding listing_of header_text format_text line_text section_text field_text hex digits is_folded looks_in patches_in number_at residue_of extended omf_kind number_read index_read name_read each_read segment_read member_read group_read base_read public_read external_read communal_length communal_read piece_read method_read thread_read frame_read target_read displacement_read fixup_read subrecord_read said_by places_in entries_in tables_of contents_of sections_in mentions_in binding_of symbols_in subrecords_upto fixed_in meaning_of field_by fields_in all_bytes symbol_table stages_of fault_of

@@ -1,12 +1,9 @@
 -- What is read of a file is listed as the file is.
 use Rattle.std.proofs.Common.{ℕ, List, length, sym}
 use Rattle.oc_linking.specs.Keeping.{all}
-use Rattle.oc_neutral.specs.Invariants.{IsObject}
-use Rattle.oc_neutral.specs.Objects.{Object}
+use Rattle.oc_neutral.specs.{Invariants.{IsObject}, Objects.{Object}}
 use Rattle.oc_dispatch.specs.Built.{IsRead, built}
-use Rattle.oc_listings.specs.declared.listing.Listing.{Listing}
-use Rattle.oc_listings.specs.Laws.{ListingsAgree}
-use Rattle.oc_listings.specs.ObjectListings.{object_listing}
+use Rattle.oc_listings.specs.{declared.listing.Listing.{Listing}, Laws.{ListingsAgree}, ObjectListings.{object_listing}}
 use Rattle.oc_lister.specs.Runs.{IsListed}
 
 -- the listing of the object is that of the file

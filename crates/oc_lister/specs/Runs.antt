@@ -1,21 +1,13 @@
 -- What a run of the command does, by its status (our profile).
-use Rattle.std.specs.Prelude.{◌≡◌, ℕ, ◌⊎◌, List, codes, Option, Some, None}
-use Rattle.std.specs.Option.{IsSomeAnd}
-use Rattle.oc_base.specs.declared.fault.Fault.{Fault}
-use Rattle.oc_base.specs.declared.format.Format.{Format}
-use Rattle.oc_linking.specs.Keeping.{all}
-use Rattle.oc_linking.specs.Numbers.{or_else}
-use Rattle.oc_outside.specs.Causes.{IsSteady}
-use Rattle.oc_outside.specs.Held.{Held, file_of}
-use Rattle.oc_outside.specs.Texts.{grown, TakesPrefix}
-use Rattle.oc_convert.specs.Dispatched.{reading_refusal}
-use Rattle.oc_convert.specs.Identified.{identified}
+use Rattle.std.specs.{Prelude.{◌≡◌, ℕ, ◌⊎◌, List, codes, Option, Some, None}, Option.{IsSomeAnd}}
+use Rattle.oc_base.specs.{declared.fault.Fault.{Fault}, declared.format.Format.{Format}}
+use Rattle.oc_linking.specs.{Keeping.{all}, Numbers.{or_else}}
+use Rattle.oc_outside.specs.{Causes.{IsSteady}, Held.{Held, file_of}, Texts.{grown, TakesPrefix}}
+use Rattle.oc_convert.specs.{Dispatched.{reading_refusal}, Identified.{identified}}
 use Rattle.oc_dispatch.specs.Built.{built}
-use Rattle.oc_listings.specs.declared.listing.Listing.{Listing}
-use Rattle.oc_listings.specs.Listings.{listing_of}
+use Rattle.oc_listings.specs.{declared.listing.Listing.{Listing}, Listings.{listing_of}}
 use Rattle.oc_runs.specs.Ends as ends
-use Rattle.oc_runs.specs.Refusals.{HasRefusal, IsExact, IsJudged, length_refusal}
-use Rattle.oc_runs.specs.States.{State}
+use Rattle.oc_runs.specs.{Refusals.{HasRefusal, IsExact, IsJudged, length_refusal}, States.{State}}
 use Rattle.oc_lister.specs.Words.{asked_by}
 
 -- the text for words that ask for no listing

@@ -1,9 +1,7 @@
 -- What the words of the command ask for (our profile).
-use Rattle.std.specs.Prelude.{ℕ, List, [], ◌∷◌, codes, Option, None}
-use Rattle.std.specs.Option.{option_map}
+use Rattle.std.specs.{Prelude.{ℕ, List, [], ◌∷◌, codes, Option, None}, Option.{option_map}}
 use Rattle.oc_words.specs.Texts.{looked_up}
-use Rattle.oc_listings.specs.declared.listing.Listing.{Listing}
-use Rattle.oc_listings.specs.declared.listing.Listing.TheVariants.{Header, Sections, Relocations}
+use Rattle.oc_listings.specs.{declared.listing.Listing.{Listing}, declared.listing.Listing.TheVariants.{Header, Sections, Relocations}}
 
 -- the listings by their words
 abbrev pub listings : List (List ℕ × Listing)

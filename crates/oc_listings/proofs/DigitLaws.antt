@@ -1,9 +1,7 @@
 -- The digits of a number below 16 ^ k, with zeros first, are its last k digits.
 use Rattle.std.proofs.Common.{◌≡◌, ℕ, zero, suc, ◌+◌, ◌-◌, ◌*◌, ◌/◌, ◌%◌, ◌^◌, ◌<◌, Bool, true, false, cond, eqb, List, [], ◌∷◌, ◌++◌, length, refl, sym, ◌∙◌, ap, arith, append-nil, append_assoc, length-append}
-use Rattle.std.specs.Prelude.{replicate}
-use Rattle.std.specs.Fmt.{digit_glyph, digits, digits_onto}
-use Rattle.std.proofs.lemmas.Bool.{eqb-true}
-use Rattle.std.proofs.lemmas.Nat.{shr-shr}
+use Rattle.std.specs.{Prelude.{replicate}, Fmt.{digit_glyph, digits, digits_onto}}
+use Rattle.std.proofs.lemmas.{Bool.{eqb-true}, Nat.{shr-shr}}
 use Rattle.std.proofs.Math.Nat.{pow-suc}
 use Rattle.oc_dump.specs.Lines.{hex}
 use Rattle.oc_listings.specs.Digits.{last_digits}

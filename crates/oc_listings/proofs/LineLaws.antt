@@ -1,10 +1,7 @@
 -- Lists of lines that are computed from others.
 use Rattle.std.proofs.Common.{◌≡◌, ℕ, suc, ◌+◌, List, [], ◌∷◌, ◌++◌, length, map, Option, Some, None, refl, sym, ◌∙◌, ap, arith, length-append}
-use Rattle.std.specs.Prelude.{filter_map, slice_get}
-use Rattle.std.specs.List.{cons_option, enumerate_from, flat_map, range_with_len}
-use Rattle.std.specs.Option.{option_map}
-use Rattle.std.proofs.lemmas.List.Concat.{flat_map-append}
-use Rattle.std.proofs.lemmas.List.Sums.{sum_by-cons}
+use Rattle.std.specs.{Prelude.{filter_map, slice_get}, List.{cons_option, enumerate_from, flat_map, range_with_len}, Option.{option_map}}
+use Rattle.std.proofs.lemmas.{List.Concat.{flat_map-append}, List.Sums.{sum_by-cons}}
 use Rattle.oc_chains.specs.Lists.{Lists, held_in, list_of}
 
 -- two maps that agree at each element

@@ -1,45 +1,25 @@
 -- The listings of an object are those of the file that it shows.
 use Rattle.std.proofs.Common.{◌≡◌, ℕ, ◌<◌, ◌≤◌, List, [], length, map, Option, Some, None, refl, sym, ◌∙◌, ap, subst, arith}
-use Rattle.std.proofs.lemmas.List.{length-map}
-use Rattle.std.specs.Prelude.{filter_map, slice_get}
-use Rattle.std.specs.List.{flat_map, range_with_len}
-use Rattle.std.specs.Option.{option_and_then, option_map, option_map_or}
-use Rattle.std.proofs.lemmas.Option.{slice_get-map, slice_get_within}
-use Rattle.std.proofs.lemmas.List.Folds.{flat_map-map}
+use Rattle.std.proofs.lemmas.{List.{length-map}, Option.{slice_get-map, slice_get_within}, List.Folds.{flat_map-map}}
+use Rattle.std.specs.{Prelude.{filter_map, slice_get}, List.{flat_map, range_with_len}, Option.{option_and_then, option_map, option_map_or}}
 use Rattle.oc_base.specs.Formats.{word_for}
-use Rattle.oc_linking.specs.declared.terms.Patch.{Patch}
-use Rattle.oc_linking.specs.Keeping.{all}
-use Rattle.oc_linking.specs.Linking.{patch_of}
+use Rattle.oc_linking.specs.{declared.terms.Patch.{Patch}, Keeping.{all}, Linking.{patch_of}, Placing.{zeros}, Values.{Valuation, numbered, values}}
 use Rattle.oc_linking.specs.Parts as parts
-use Rattle.oc_linking.specs.Placing.{zeros}
-use Rattle.oc_linking.specs.Values.{Valuation, numbered, values}
-use Rattle.oc_chains.specs.Fields.{end_of}
-use Rattle.oc_chains.specs.Lists.{held_in, list_of}
-use Rattle.oc_neutral.specs.declared.reloc.Reloc.{Reloc}
-use Rattle.oc_neutral.specs.declared.reloc.Target.{Target}
-use Rattle.oc_neutral.specs.declared.reloc.Target.TheVariants as target
-use Rattle.oc_neutral.specs.declared.section.Section.{Section}
-use Rattle.oc_neutral.specs.declared.symbol.Symbol.{Symbol}
-use Rattle.oc_neutral.specs.Building.{is_zero}
-use Rattle.oc_neutral.specs.Dialects.{Dialect, Look, is_folded, looks_in, patches_in}
+use Rattle.oc_chains.specs.{Fields.{end_of}, Lists.{held_in, list_of}}
+use Rattle.oc_neutral.specs.{declared.reloc.Reloc.{Reloc}, declared.reloc.Target.{Target}, declared.section.Section.{Section}, declared.symbol.Symbol.{Symbol}}
+use Rattle.oc_neutral.specs.{Building.{is_zero}, Dialects.{Dialect, Look, is_folded, looks_in, patches_in}}
 use Rattle.oc_neutral.specs.Faces.{field_of, named_of, number_of, shown_section, shown_sections, shown_symbol, shown_symbols, frame_of}
-use Rattle.oc_neutral.specs.Invariants.{HasItsBytes, IsBinding, IsHeld, IsObject, IsSymbol, IsThere}
-use Rattle.oc_neutral.specs.Objects.{Object, reloc_at}
+use Rattle.oc_neutral.specs.{Invariants.{HasItsBytes, IsBinding, IsHeld, IsObject, IsSymbol, IsThere}, Objects.{Object, reloc_at}, Worth.{residue_at}}
+use Rattle.oc_neutral.specs.declared.reloc.Target.TheVariants as target
 use Rattle.oc_shows.specs.Shows.{AreNumbered, Shows, ShowsAt, reloc_look}
-use Rattle.oc_neutral.specs.Worth.{residue_at}
-use Rattle.oc_neutral.proofs.FoundRelocs.{found_at, widths_at}
-use Rattle.oc_neutral.proofs.Positions.{each_at, each_weaker, images_same, there_at}
-use Rattle.oc_neutral.proofs.SameParts.{bytes_within}
+use Rattle.oc_neutral.proofs.{FoundRelocs.{found_at, widths_at}, Positions.{each_at, each_weaker, images_same, there_at}, SameParts.{bytes_within}}
 use Rattle.oc_neutral.proofs.Scanning.{field_at, field_found, scanned}
-use Rattle.oc_shows.proofs.Truth.{values_fixed}
-use Rattle.oc_shows.proofs.ShownComputed.{live_there}
-use Rattle.oc_listings.specs.declared.listing.Listing.{Listing}
-use Rattle.oc_listings.specs.declared.listing.Listing.TheVariants.{Header, Sections, Relocations}
-use Rattle.oc_listings.specs.Texts.{field_text, header_text, numbered_text, section_text, symbol_text}
-use Rattle.oc_listings.specs.Listings as file
-use Rattle.oc_listings.specs.Listings.{silent}
-use Rattle.oc_listings.specs.ObjectListings as object
+use Rattle.oc_shows.proofs.{Truth.{values_fixed}, ShownComputed.{live_there}}
+use Rattle.oc_listings.specs.{declared.listing.Listing.{Listing}, declared.listing.Listing.TheVariants.{Header, Sections, Relocations}}
+use Rattle.oc_listings.specs.{Texts.{field_text, header_text, numbered_text, section_text, symbol_text}, Listings.{silent}}
 use Rattle.oc_listings.specs.ObjectListings.{resting_residue, target_text, reloc_line, number_at, reloc_text_of}
+use Rattle.oc_listings.specs.Listings as file
+use Rattle.oc_listings.specs.ObjectListings as object
 use Rattle.oc_listings.proofs.LineLaws.{filter_map-same, filter_map-map, flat_map-twice, flat_map-same, flat_map-numbered, held-lines}
 use Rattle.oc_listings.proofs.RestLaws.{found_by_number, residue-rests, resting}
 

@@ -1,35 +1,24 @@
 -- The residue of a relocation where all sections lie at 0.
 use Rattle.std.proofs.Common.{◌≡◌, ℕ, ◌+◌, ◌-◌, ◌%◌, ◌<◌, arith, if◌then◌else◌, Some, None, refl, sym, ◌∙◌, ap, zero-add}
-use Rattle.std.specs.Prelude.{slice_get}
-use Rattle.std.specs.Option.{option_map, option_map_or, unwrap_or}
+use Rattle.std.specs.{Prelude.{slice_get}, Option.{option_map, option_map_or, unwrap_or}}
 use Rattle.std.proofs.lemmas.Option.{slice_get-map}
-use Rattle.oc_base.specs.declared.format.Word.{Word}
-use Rattle.oc_base.specs.declared.format.Word.TheVariants.{W32, W64}
-use Rattle.oc_linking.specs.declared.terms.Base.{Base}
+use Rattle.oc_base.specs.{declared.format.Word.{Word}, declared.format.Word.TheVariants.{W32, W64}}
+use Rattle.oc_linking.specs.{declared.terms.Base.{Base}, declared.terms.Binding.{Binding}}
+use Rattle.oc_linking.specs.{declared.terms.Binding.TheVariants.{Local, Global, Undefined, Common, Weak}, declared.terms.Fallback.{Fallback}}
+use Rattle.oc_linking.specs.{declared.terms.Less.{Less}, declared.terms.Value.{Value}, Numbers.{minus, modulus, reduced}, Placing.{Site, nowhere, zeros}}
+use Rattle.oc_linking.specs.Values.{Valued, Valuation, own_site, global_site, strong_site, fallback_site, site_of, numbered, values, worthless}
 use Rattle.oc_linking.specs.declared.terms.Base.TheVariants as base
-use Rattle.oc_linking.specs.declared.terms.Binding.{Binding}
-use Rattle.oc_linking.specs.declared.terms.Binding.TheVariants.{Local, Global, Undefined, Common, Weak}
-use Rattle.oc_linking.specs.declared.terms.Fallback.{Fallback}
 use Rattle.oc_linking.specs.declared.terms.Fallback.TheVariants as fallback
-use Rattle.oc_linking.specs.declared.terms.Less.{Less}
 use Rattle.oc_linking.specs.declared.terms.Less.TheVariants as less
-use Rattle.oc_linking.specs.declared.terms.Value.{Value}
 use Rattle.oc_linking.specs.declared.terms.Value.TheVariants as value
 use Rattle.std.proofs.Math.Nat.{mod-lt}
-use Rattle.oc_linking.specs.Numbers.{minus, modulus, reduced}
 use Rattle.oc_linking.specs.Parts as parts
-use Rattle.oc_linking.specs.Placing.{Site, nowhere, zeros}
-use Rattle.oc_linking.specs.Values.{Valued, Valuation, own_site, global_site, strong_site, fallback_site, site_of, numbered, values, worthless}
 use Rattle.oc_algebra.specs.Residues.{residue_of}
-use Rattle.oc_neutral.specs.declared.reloc.Reloc.{Reloc}
-use Rattle.oc_neutral.specs.declared.reloc.Target.{Target}
-use Rattle.oc_neutral.specs.declared.reloc.Target.TheVariants as target
-use Rattle.oc_neutral.specs.declared.symbol.Symbol.{Symbol}
-use Rattle.oc_neutral.specs.Objects.{Object}
-use Rattle.oc_neutral.specs.Faces.{number_of, shown_binding, shown_fallback, shown_symbol, shown_symbols}
-use Rattle.oc_neutral.specs.Invariants.{IsBinding, IsFallback}
-use Rattle.oc_shows.specs.Shows.{AreNumbered}
+use Rattle.oc_neutral.specs.{declared.reloc.Reloc.{Reloc}, declared.reloc.Target.{Target}, declared.symbol.Symbol.{Symbol}, Objects.{Object}}
+use Rattle.oc_neutral.specs.{Faces.{number_of, shown_binding, shown_fallback, shown_symbol, shown_symbols}, Invariants.{IsBinding, IsFallback}}
 use Rattle.oc_neutral.specs.Worth.{base_of, less_of, residue_at, target_worth}
+use Rattle.oc_neutral.specs.declared.reloc.Target.TheVariants as target
+use Rattle.oc_shows.specs.Shows.{AreNumbered}
 use Rattle.oc_shows.proofs.Truth.{numbered-own, values-own}
 use Rattle.oc_listings.specs.Listings.{silent}
 use Rattle.oc_listings.specs.ObjectListings.{own_number, strong_number, fallback_number, resting_number, target_number, base_number, less_number, resting_residue}

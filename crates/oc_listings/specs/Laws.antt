@@ -1,13 +1,9 @@
 -- The law on listings (our profile).
 use Rattle.std.specs.Prelude.{◌≡◌, ℕ, List, length}
 use Rattle.oc_linking.specs.Keeping.{all}
-use Rattle.oc_neutral.specs.Objects.{Object}
-use Rattle.oc_neutral.specs.Dialects.{Dialect, IsDialect}
-use Rattle.oc_neutral.specs.Invariants.{IsObject}
+use Rattle.oc_neutral.specs.{Objects.{Object}, Dialects.{Dialect, IsDialect}, Invariants.{IsObject}}
 use Rattle.oc_shows.specs.Shows.{Shows}
-use Rattle.oc_listings.specs.declared.listing.Listing.{Listing}
-use Rattle.oc_listings.specs.Listings.{listing_of}
-use Rattle.oc_listings.specs.ObjectListings.{object_listing}
+use Rattle.oc_listings.specs.{declared.listing.Listing.{Listing}, Listings.{listing_of}, ObjectListings.{object_listing}}
 
 -- the listings of an object that shows a file are those of the file
 abbrev pub ListingsAgree : Type 0

@@ -1,17 +1,12 @@
 -- The listings of a file, by the rules of its format (our profile). All is kept.
-use Rattle.std.specs.Prelude.{ℕ, List, [], length, filter_map, slice_get, Option, None}
-use Rattle.std.specs.List.{enumerate_from, flat_map, range_with_len}
+use Rattle.std.specs.{Prelude.{ℕ, List, [], length, filter_map, slice_get, Option, None}, List.{enumerate_from, flat_map, range_with_len}}
 use Rattle.std.specs.Option.{option_and_then, option_map, option_map_or}
 use Rattle.oc_base.specs.Formats.{word_for}
-use Rattle.oc_linking.specs.declared.terms.Patch.{Patch}
-use Rattle.oc_linking.specs.Keeping.{all}
-use Rattle.oc_linking.specs.Parts as parts
-use Rattle.oc_linking.specs.Placing.{Outside, zeros}
-use Rattle.oc_linking.specs.Rules.{Named, Symbolic, Sectional}
+use Rattle.oc_linking.specs.{declared.terms.Patch.{Patch}, Keeping.{all}, Placing.{Outside, zeros}, Rules.{Named, Symbolic, Sectional}}
 use Rattle.oc_linking.specs.Values.{Valuation, numbered, values}
+use Rattle.oc_linking.specs.Parts as parts
 use Rattle.oc_neutral.specs.Dialects.{Dialect, Look, looks_in, patches_in}
-use Rattle.oc_listings.specs.declared.listing.Listing.{Listing}
-use Rattle.oc_listings.specs.declared.listing.Listing.TheVariants.{Header, Sections, Relocations}
+use Rattle.oc_listings.specs.{declared.listing.Listing.{Listing}, declared.listing.Listing.TheVariants.{Header, Sections, Relocations}}
 use Rattle.oc_listings.specs.Texts.{field_text, header_text, numbered_text, section_text, symbol_text}
 
 -- an outside map that gives no site to any name, and the slot 0 to each: an Undefined and a Common have zeros as their values, as where they lie at the

@@ -1,31 +1,19 @@
 -- The listings of an object that was read whole (our profile). They are those of the file (Listings).
-use Rattle.std.specs.Prelude.{ℕ, ◌+◌, List, [], length, slice_get}
-use Rattle.std.specs.List.{flat_map, range_with_len}
-use Rattle.std.specs.Option.{option_map_or}
-use Rattle.oc_base.specs.declared.format.Word.{Word}
-use Rattle.oc_base.specs.Formats.{word_for}
-use Rattle.oc_linking.specs.declared.terms.Base.{Base}
+use Rattle.std.specs.{Prelude.{ℕ, ◌+◌, List, [], length, slice_get}, List.{flat_map, range_with_len}, Option.{option_map_or}}
+use Rattle.oc_base.specs.{declared.format.Word.{Word}, Formats.{word_for}}
+use Rattle.oc_linking.specs.{declared.terms.Base.{Base}, declared.terms.Binding.{Binding}}
+use Rattle.oc_linking.specs.{declared.terms.Binding.TheVariants.{Local, Global, Undefined, Common, Weak}, declared.terms.Fallback.{Fallback}}
+use Rattle.oc_linking.specs.{declared.terms.Less.{Less}, declared.terms.Value.{Value}, Numbers.{minus, reduced}}
 use Rattle.oc_linking.specs.declared.terms.Base.TheVariants as base
-use Rattle.oc_linking.specs.declared.terms.Binding.{Binding}
-use Rattle.oc_linking.specs.declared.terms.Binding.TheVariants.{Local, Global, Undefined, Common, Weak}
-use Rattle.oc_linking.specs.declared.terms.Fallback.{Fallback}
 use Rattle.oc_linking.specs.declared.terms.Fallback.TheVariants as fallback
-use Rattle.oc_linking.specs.declared.terms.Less.{Less}
 use Rattle.oc_linking.specs.declared.terms.Less.TheVariants as less
-use Rattle.oc_linking.specs.declared.terms.Value.{Value}
 use Rattle.oc_linking.specs.declared.terms.Value.TheVariants as value
-use Rattle.oc_linking.specs.Numbers.{minus, reduced}
 use Rattle.oc_algebra.specs.Residues.{residue_of}
-use Rattle.oc_chains.specs.declared.field.Field.{Field}
-use Rattle.oc_chains.specs.Lists.{held_in, list_of}
-use Rattle.oc_neutral.specs.declared.reloc.Reloc.{Reloc}
-use Rattle.oc_neutral.specs.declared.reloc.Target.{Target}
-use Rattle.oc_neutral.specs.declared.reloc.Target.TheVariants as target
-use Rattle.oc_neutral.specs.declared.section.Section.{Section}
-use Rattle.oc_neutral.specs.declared.symbol.Symbol.{Symbol}
+use Rattle.oc_chains.specs.{declared.field.Field.{Field}, Lists.{held_in, list_of}}
+use Rattle.oc_neutral.specs.{declared.reloc.Reloc.{Reloc}, declared.reloc.Target.{Target}, declared.section.Section.{Section}, declared.symbol.Symbol.{Symbol}}
 use Rattle.oc_neutral.specs.Objects.{Object}
-use Rattle.oc_listings.specs.declared.listing.Listing.{Listing}
-use Rattle.oc_listings.specs.declared.listing.Listing.TheVariants.{Header, Sections, Relocations}
+use Rattle.oc_neutral.specs.declared.reloc.Target.TheVariants as target
+use Rattle.oc_listings.specs.{declared.listing.Listing.{Listing}, declared.listing.Listing.TheVariants.{Header, Sections, Relocations}}
 use Rattle.oc_listings.specs.Texts.{field_text, header_text, numbered_text, section_text, symbol_text}
 
 -- ... numbers where all sections lie at 0

@@ -1,15 +1,11 @@
 -- The lines of listings (our profile).
-use Rattle.std.specs.Prelude.{ℕ, List, ◌++◌, codes}
-use Rattle.std.specs.Fmt.{decimal}
+use Rattle.std.specs.{Prelude.{ℕ, List, ◌++◌, codes}, Fmt.{decimal}}
 use Rattle.oc_base.specs.declared.format.Format.{Format}
 use Rattle.oc_base.specs.declared.format.Format.TheVariants.{Elf32, Elf64, Coff32, Coff64, Mac32, Mac64, Omf, BigElf32, BigElf64, BigCoff32, BigCoff64}
 use Rattle.oc_base.specs.declared.format.Word.{Word}
-use Rattle.oc_linking.specs.declared.terms.Check.{Check}
+use Rattle.oc_linking.specs.{declared.terms.Check.{Check}, declared.terms.Kind.{Kind}, declared.terms.Width.{Width}, Fits.{bytes_of}}
 use Rattle.oc_linking.specs.declared.terms.Check.TheVariants as check
-use Rattle.oc_linking.specs.declared.terms.Kind.{Kind}
 use Rattle.oc_linking.specs.declared.terms.Kind.TheVariants as kind
-use Rattle.oc_linking.specs.declared.terms.Width.{Width}
-use Rattle.oc_linking.specs.Fits.{bytes_of}
 use Rattle.oc_dump.specs.Lines.{digit_count, hex, shown_name}
 
 -- the name of a format

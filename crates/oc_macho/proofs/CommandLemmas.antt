@@ -2,17 +2,10 @@
 use Rattle.std.proofs.Common.{◌≡◌, ℕ, ◌+◌, ◌<◌, ◌≤◌, Bool, true, false, cond, eqb, List, Option, None, Some, refl, sym, ◌∙◌, ap, arith}
 use Rattle.std.specs.Prelude.{◌||◌}
 use Rattle.oc_base.specs.declared.format.Word.{Word}
-use Rattle.oc_shelf.proofs.ReadingLaws.FirstsLemmas.{any_more, any_true, first_more}
-use Rattle.oc_shelf.proofs.ReadingLaws.StageLemmas.{sum_more}
-use Rattle.oc_shelf.proofs.ReadingLaws.StepLemmas.{step_more}
-use Rattle.oc_macho.specs.declared.commands.Commands.{Commands}
-use Rattle.oc_macho.specs.declared.constants.TheConstants.{LC_SYMTAB}
-use Rattle.oc_macho.specs.LoadCommand.{load_command_at}
-use Rattle.oc_macho.specs.MachHeader.{mach_header_size}
-use Rattle.oc_macho.specs.SegmentCommand.{segment_number}
-use Rattle.oc_macho.specs.Tables.{command_place, first_command, is_command}
-use Rattle.oc_macho.specs.HeaderFaults.{any_bad, commands_end, count_upto, is_bad}
-use Rattle.oc_macho.specs.Walked.{IsWalking, and_place, no_commands, with_command}
+use Rattle.oc_shelf.proofs.{ReadingLaws.FirstsLemmas.{any_more, any_true, first_more}, ReadingLaws.StageLemmas.{sum_more}, ReadingLaws.StepLemmas.{step_more}}
+use Rattle.oc_macho.specs.{declared.commands.Commands.{Commands}, declared.constants.TheConstants.{LC_SYMTAB}, LoadCommand.{load_command_at}}
+use Rattle.oc_macho.specs.{MachHeader.{mach_header_size}, SegmentCommand.{segment_number}, Tables.{command_place, first_command, is_command}}
+use Rattle.oc_macho.specs.{HeaderFaults.{any_bad, commands_end, count_upto, is_bad}, Walked.{IsWalking, and_place, no_commands, with_command}}
 
 -- before the first
 pub walking_none : (w : Word) (file : List ℕ) → IsWalking w file 0 (mach_header_size w) no_commands

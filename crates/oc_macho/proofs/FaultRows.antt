@@ -1,37 +1,22 @@
 -- What files are refused for, computed on worked files that were changed at some places: each condition alone, and beside the one before it.
 use Rattle.std.proofs.Common.{◌≡◌, ℕ, zero, suc, List, [], ◌∷◌, ◌++◌, length, map, Some, None, Option, refl}
-use Rattle.std.specs.Prelude.{drop}
-use Rattle.std.specs.Option.{option_map}
-use Rattle.oc_base.specs.declared.format.Word.{Word}
-use Rattle.oc_base.specs.declared.format.Word.TheVariants.{W32, W64}
-use Rattle.oc_base.specs.declared.code.Code.{Code}
+use Rattle.std.specs.{Prelude.{drop}, Option.{option_map}}
+use Rattle.oc_base.specs.{declared.format.Word.{Word}, declared.format.Word.TheVariants.{W32, W64}, declared.code.Code.{Code}, declared.fault.Fault.{Fault}}
+use Rattle.oc_base.specs.{declared.fault.Phase.{Phase}, Numbers.{number_at}}
 use Rattle.oc_base.specs.declared.code.Code.TheVariants as code
-use Rattle.oc_base.specs.declared.fault.Fault.{Fault}
-use Rattle.oc_base.specs.declared.fault.Phase.{Phase}
 use Rattle.oc_base.specs.declared.fault.Phase.TheVariants as phase
-use Rattle.oc_base.specs.Numbers.{number_at}
 use Rattle.oc_linking.specs.Keeping.{all}
-use Rattle.oc_algebra.specs.Fields.{extended}
-use Rattle.oc_algebra.specs.Residues.{residue_of}
+use Rattle.oc_algebra.specs.{Fields.{extended}, Residues.{residue_of}}
 use Rattle.oc_neutral.specs.Mach.Kinds.{mach_kind, mach_tag}
-use Rattle.oc_macho.specs.MachHeader.{mach_header_of}
-use Rattle.oc_macho.specs.LoadCommand.{load_command_at}
-use Rattle.oc_macho.specs.SegmentCommand.{segment_command_at}
-use Rattle.oc_macho.specs.SymtabCommand.{symtab_command_at}
-use Rattle.oc_macho.specs.SectionHeader.{section_header_at}
-use Rattle.oc_macho.specs.Nlist.{nlist_at}
-use Rattle.oc_macho.specs.RelocationInfo.{relocation_info_at, relocation_info_of, reference_of, scattered_of}
-use Rattle.oc_macho.specs.Tables.{section_table, tables_of}
-use Rattle.oc_macho.specs.Sections.{kind_of, contents_of, holder_of}
-use Rattle.oc_macho.specs.Symbols.{name_at, is_own, binding_of, symbol_of}
-use Rattle.oc_macho.specs.Entries.{row_for, item_at}
-use Rattle.oc_macho.specs.Aims.{aim_in}
-use Rattle.oc_macho.specs.Fields.{field_parts_by, added_by, field_of}
-use Rattle.oc_macho.specs.HeaderFaults.{is_bad, least_size, header_conditions}
-use Rattle.oc_macho.specs.SectionFaults as sections
-use Rattle.oc_macho.specs.SymbolFaults as symbols
+use Rattle.oc_macho.specs.{MachHeader.{mach_header_of}, LoadCommand.{load_command_at}, SegmentCommand.{segment_command_at}, SymtabCommand.{symtab_command_at}}
+use Rattle.oc_macho.specs.{SectionHeader.{section_header_at}, Nlist.{nlist_at}}
+use Rattle.oc_macho.specs.{RelocationInfo.{relocation_info_at, relocation_info_of, reference_of, scattered_of}, Tables.{section_table, tables_of}}
+use Rattle.oc_macho.specs.{Sections.{kind_of, contents_of, holder_of}, Symbols.{name_at, is_own, binding_of, symbol_of}, Entries.{row_for, item_at}}
+use Rattle.oc_macho.specs.{Aims.{aim_in}, Fields.{field_parts_by, added_by, field_of}, HeaderFaults.{is_bad, least_size, header_conditions}}
 use Rattle.oc_macho.specs.RelocationFaults.{is_unknown, is_no_pair, refers_to_nothing, refers_wrongly, form_conditions, target_conditions, is_too_wide, entry_conditions}
 use Rattle.oc_macho.specs.Rules.{mach_rules, fault_of}
+use Rattle.oc_macho.specs.SectionFaults as sections
+use Rattle.oc_macho.specs.SymbolFaults as symbols
 use Rattle.oc_macho.proofs.WorkedFiles.{called, difference, folded}
 
 -- a fault: its phase, index, code and place

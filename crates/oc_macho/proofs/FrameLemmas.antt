@@ -1,21 +1,14 @@
 -- What the reader holds of a file is the file's.
 use Rattle.std.proofs.Common.{◌≡◌, ℕ, ◌+◌, ◌*◌, ◌<◌, ◌≤◌, Bool, false, cond, List, [], length, take, drop, Some, refl, sym, ◌∙◌, ap, arith, length-drop}
-use Rattle.std.specs.Prelude.{slice_get}
-use Rattle.std.specs.Option.{option_map}
-use Rattle.std.proofs.lemmas.List.{length-map, length-take-le}
-use Rattle.std.proofs.lemmas.Option.{get_or_from_slice_get, slice_get-map}
+use Rattle.std.specs.{Prelude.{slice_get}, Option.{option_map}}
+use Rattle.std.proofs.lemmas.{List.{length-map, length-take-le}, Option.{get_or_from_slice_get, slice_get-map}}
 use Rattle.oc_base.specs.declared.format.Word.{Word}
 use Rattle.oc_shelf.specs.Reading.Rows.{rows}
 use Rattle.oc_shelf.proofs.ReadingLaws.RowLemmas.{length-rows, row_at, row_inside}
-use Rattle.oc_macho.specs.declared.section_header.SectionHeader.{SectionHeader}
-use Rattle.oc_macho.specs.declared.nlist.Nlist.{Nlist}
-use Rattle.oc_macho.specs.declared.relocation_info.RelocationInfo.{RelocationInfo}
-use Rattle.oc_macho.specs.RelocationInfo.{relocation_info_at}
-use Rattle.oc_macho.specs.Sections.{is_zerofill}
-use Rattle.oc_macho.specs.SectionHeader.{section_header_size, section_header_at}
-use Rattle.oc_macho.specs.Nlist.{nlist_size, nlist_at}
-use Rattle.oc_macho.specs.Tables.{SectionTable, section_table, tables_of}
-use Rattle.oc_macho.specs.Framed.{IsFrame, no_header, table_at}
+use Rattle.oc_macho.specs.{declared.section_header.SectionHeader.{SectionHeader}, declared.nlist.Nlist.{Nlist}}
+use Rattle.oc_macho.specs.{declared.relocation_info.RelocationInfo.{RelocationInfo}, RelocationInfo.{relocation_info_at}, Sections.{is_zerofill}}
+use Rattle.oc_macho.specs.{SectionHeader.{section_header_size, section_header_at}, Nlist.{nlist_size, nlist_at}}
+use Rattle.oc_macho.specs.{Tables.{SectionTable, section_table, tables_of}, Framed.{IsFrame, no_header, table_at}}
 
 pub word_is : (w : Word) (file : List ℕ) → w ≡ (tables_of w file).word
 unfolding tables_of

@@ -1,27 +1,15 @@
 -- What a file has whose header and commands have no fault.
 use Rattle.std.proofs.Common.{◌≡◌, ℕ, zero, suc, ◌+◌, ◌*◌, ◌<◌, ◌≤◌, Bool, true, false, cond, List, [], length, map, take, drop, Option, None, Some, refl, sym, ◌∙◌, ap, subst, arith}
-use Rattle.std.specs.Prelude.{◌||◌, nat_lt}
-use Rattle.std.specs.Option.{option_map, option_map_or}
-use Rattle.std.proofs.lemmas.Bool.{eqb-true, or_parts, not-false}
-use Rattle.std.proofs.lemmas.Bool.Decides.{nat_tests}
-use Rattle.std.proofs.lemmas.Option.{none-some, same_Some}
-use Rattle.oc_base.specs.declared.format.Word.{Word}
-use Rattle.oc_base.specs.declared.format.Word.TheVariants.{W32, W64}
-use Rattle.oc_linking.specs.Numbers.{or_else}
-use Rattle.oc_linking.specs.FirstFault.{first_broken, stage_fault}
-use Rattle.oc_linking.proofs.FirstFaultLaws.{first_upto_none}
-use Rattle.oc_linking.proofs.Upto.{first_upto_from}
+use Rattle.std.specs.{Prelude.{◌||◌, nat_lt}, Option.{option_map, option_map_or}}
+use Rattle.std.proofs.lemmas.{Bool.{eqb-true, or_parts, not-false}, Bool.Decides.{nat_tests}, Option.{none-some, same_Some}}
+use Rattle.oc_base.specs.{declared.format.Word.{Word}, declared.format.Word.TheVariants.{W32, W64}}
+use Rattle.oc_linking.specs.{Numbers.{or_else}, FirstFault.{first_broken, stage_fault}}
+use Rattle.oc_linking.proofs.{FirstFaultLaws.{first_upto_none}, Upto.{first_upto_from}}
 use Rattle.oc_shelf.specs.Reading.Rows.{rows}
-use Rattle.oc_shelf.proofs.ReadingLaws.FirstsLemmas.{any_false}
-use Rattle.oc_shelf.proofs.ReadingLaws.StageLemmas.{all_hold, first_broken-append}
-use Rattle.oc_macho.specs.declared.constants.TheConstants.{LC_SYMTAB}
-use Rattle.oc_macho.specs.declared.symtab_command.SymtabCommand.{SymtabCommand}
-use Rattle.oc_macho.specs.LoadCommand.{load_command_at}
-use Rattle.oc_macho.specs.MachHeader.{mach_header_of}
-use Rattle.oc_macho.specs.SegmentCommand.{segment_command_at, segment_number}
-use Rattle.oc_macho.specs.SectionHeader.{section_header_at, section_header_size}
-use Rattle.oc_macho.specs.Nlist.{nlist_size}
-use Rattle.oc_macho.specs.SymtabCommand.{symtab_command_at}
+use Rattle.oc_shelf.proofs.{ReadingLaws.FirstsLemmas.{any_false}, ReadingLaws.StageLemmas.{all_hold, first_broken-append}}
+use Rattle.oc_macho.specs.{declared.constants.TheConstants.{LC_SYMTAB}, declared.symtab_command.SymtabCommand.{SymtabCommand}, LoadCommand.{load_command_at}}
+use Rattle.oc_macho.specs.{MachHeader.{mach_header_of}, SegmentCommand.{segment_command_at, segment_number}}
+use Rattle.oc_macho.specs.{SectionHeader.{section_header_at, section_header_size}, Nlist.{nlist_size}, SymtabCommand.{symtab_command_at}}
 use Rattle.oc_macho.specs.Tables.{command_count, command_place, first_command, headers_place, is_command, section_table, sections_by, segment_place, symtab_of, symtab_place, tables_of}
 use Rattle.oc_macho.specs.HeaderFaults.{any_bad, command_conditions, commands_end, count_upto, header_conditions, header_stage, is_bad, is_misplaced, is_short, least_size, passes_end, symtab_conditions, whole_segment}
 use Rattle.oc_macho.specs.Framed.{EndsTexts, IsFrame}

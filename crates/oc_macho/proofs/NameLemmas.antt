@@ -1,12 +1,7 @@
 -- Names among the strings.
 use Rattle.std.proofs.Common.{◌≡◌, ℕ, zero, suc, ◌+◌, ◌-◌, ◌<◌, ◌≤◌, Bool, true, false, cond, eqb, List, [], ◌∷◌, length, drop, get_or, Option, None, Some, refl, sym, ◌∙◌, ap, arith, length-drop, Decides}
-use Rattle.std.specs.Prelude.{bytes_eq, is_some, nat_eq, nat_le}
-use Rattle.std.specs.Option.{option_map, unwrap_or}
-use Rattle.std.proofs.lemmas.Bool.{eq-eqb, ne_eqb, true≢false}
-use Rattle.std.proofs.lemmas.List.{get_or-drop}
-use Rattle.std.proofs.lemmas.Slice.Eq.{bytes_eq-Decides}
-use Rattle.std.proofs.lemmas.Bool.Decides.{nat_tests}
-use Rattle.std.proofs.lemmas.Option.{none-some}
+use Rattle.std.specs.{Prelude.{bytes_eq, is_some, nat_eq, nat_le}, Option.{option_map, unwrap_or}}
+use Rattle.std.proofs.lemmas.{Bool.{eq-eqb, ne_eqb, true≢false}, List.{get_or-drop}, Slice.Eq.{bytes_eq-Decides}, Bool.Decides.{nat_tests}, Option.{none-some}}
 use Rattle.oc_shelf.specs.Reading.Texts.{text_within, text_at, short}
 
 -- a text of at most so many bytes is that text

@@ -1,49 +1,24 @@
 -- What files show, computed on worked files: sections, symbols, and fields with their residues where everything is at 0.
 use Rattle.std.proofs.Common.{◌≡◌, ℕ, ◌-◌, ◌^◌, true, false, Bool, List, [], ◌∷◌, map, codes, Some, None, Option, refl}
 use Rattle.std.specs.Option.{option_map}
-use Rattle.oc_base.specs.declared.format.Word.{Word}
-use Rattle.oc_base.specs.declared.format.Word.TheVariants.{W32, W64}
-use Rattle.oc_base.specs.Numbers.{number_at}
-use Rattle.oc_linking.specs.declared.terms.Kind.{Kind}
-use Rattle.oc_linking.specs.declared.terms.Kind.TheVariants.{Code, ReadOnly, Data, Zero}
-use Rattle.oc_linking.specs.declared.terms.Hint.{Hint}
-use Rattle.oc_linking.specs.declared.terms.Hint.TheVariants.{Plain}
-use Rattle.oc_linking.specs.declared.terms.Width.{Width}
-use Rattle.oc_linking.specs.declared.terms.Width.TheVariants.{Four, Eight}
-use Rattle.oc_linking.specs.declared.terms.Check.{Check}
-use Rattle.oc_linking.specs.declared.terms.Check.TheVariants.{Wrap, Signed}
-use Rattle.oc_linking.specs.declared.terms.Base.{Base}
-use Rattle.oc_linking.specs.declared.terms.Base.TheVariants.{Address}
-use Rattle.oc_linking.specs.declared.terms.Less.{Less}
+use Rattle.oc_base.specs.{declared.format.Word.{Word}, declared.format.Word.TheVariants.{W32, W64}, Numbers.{number_at}}
+use Rattle.oc_linking.specs.{declared.terms.Kind.{Kind}, declared.terms.Kind.TheVariants.{Code, ReadOnly, Data, Zero}, declared.terms.Hint.{Hint}}
+use Rattle.oc_linking.specs.{declared.terms.Hint.TheVariants.{Plain}, declared.terms.Width.{Width}, declared.terms.Width.TheVariants.{Four, Eight}}
+use Rattle.oc_linking.specs.{declared.terms.Check.{Check}, declared.terms.Check.TheVariants.{Wrap, Signed}, declared.terms.Base.{Base}}
+use Rattle.oc_linking.specs.{declared.terms.Base.TheVariants.{Address}, declared.terms.Less.{Less}, declared.terms.Value.TheVariants.{Place}}
+use Rattle.oc_linking.specs.{declared.terms.Binding.{Binding}, declared.terms.Binding.TheVariants.{Local, Global, Undefined, Common, Weak}, Keeping.{all}}
+use Rattle.oc_linking.specs.{Parts.{Section, Symbol}, Placing.{zeros}, Rules.{Field, Named, Symbolic, Sectional}, Values.{worthless}}
 use Rattle.oc_linking.specs.declared.terms.Less.TheVariants as less
-use Rattle.oc_linking.specs.declared.terms.Value.TheVariants.{Place}
-use Rattle.oc_linking.specs.declared.terms.Binding.{Binding}
-use Rattle.oc_linking.specs.declared.terms.Binding.TheVariants.{Local, Global, Undefined, Common, Weak}
 use Rattle.oc_linking.specs.declared.terms.Fallback.TheVariants as fallback
-use Rattle.oc_linking.specs.Keeping.{all}
-use Rattle.oc_linking.specs.Parts.{Section, Symbol}
-use Rattle.oc_linking.specs.Placing.{zeros}
-use Rattle.oc_linking.specs.Rules.{Field, Named, Symbolic, Sectional}
-use Rattle.oc_linking.specs.Values.{worthless}
-use Rattle.oc_algebra.specs.Fields.{extended}
-use Rattle.oc_algebra.specs.Residues.{residue_of}
+use Rattle.oc_algebra.specs.{Fields.{extended}, Residues.{residue_of}}
 use Rattle.oc_neutral.specs.Mach.Kinds.{mach_kind, mach_tag}
-use Rattle.oc_macho.specs.MachHeader.{mach_header_of}
-use Rattle.oc_macho.specs.LoadCommand.{load_command_at}
-use Rattle.oc_macho.specs.SegmentCommand.{segment_command_at}
-use Rattle.oc_macho.specs.SymtabCommand.{symtab_command_at}
-use Rattle.oc_macho.specs.SectionHeader.{section_header_at}
-use Rattle.oc_macho.specs.Nlist.{nlist_at}
-use Rattle.oc_macho.specs.RelocationInfo.{relocation_info_at, relocation_info_of, reference_of, scattered_of}
-use Rattle.oc_macho.specs.Tables.{section_table, tables_of}
-use Rattle.oc_macho.specs.Sections.{kind_of, contents_of, section_of, sections_in, holder_of}
-use Rattle.oc_macho.specs.Symbols.{name_at, is_own, binding_of, symbol_of, symbols_by}
-use Rattle.oc_macho.specs.Entries.{row_for, item_at, is_pinned}
-use Rattle.oc_macho.specs.Aims.{aim_in}
-use Rattle.oc_macho.specs.Fields.{field_parts_by, added_by, field_of, item_for, fields_in}
+use Rattle.oc_macho.specs.{MachHeader.{mach_header_of}, LoadCommand.{load_command_at}, SegmentCommand.{segment_command_at}, SymtabCommand.{symtab_command_at}}
+use Rattle.oc_macho.specs.{SectionHeader.{section_header_at}, Nlist.{nlist_at}}
+use Rattle.oc_macho.specs.{RelocationInfo.{relocation_info_at, relocation_info_of, reference_of, scattered_of}, Tables.{section_table, tables_of}}
+use Rattle.oc_macho.specs.{Sections.{kind_of, contents_of, section_of, sections_in, holder_of}, Symbols.{name_at, is_own, binding_of, symbol_of, symbols_by}}
+use Rattle.oc_macho.specs.{Entries.{row_for, item_at, is_pinned}, Aims.{aim_in}, Fields.{field_parts_by, added_by, field_of, item_for, fields_in}}
 use Rattle.oc_macho.specs.Rules.{mach_rules, symbols_in}
-use Rattle.oc_macho.proofs.FaultRows.{patched}
-use Rattle.oc_macho.proofs.WorkedFiles.{called, called32, behind, signed, difference, foreign, folded, compiled}
+use Rattle.oc_macho.proofs.{FaultRows.{patched}, WorkedFiles.{called, called32, behind, signed, difference, foreign, folded, compiled}}
 
 -- a section: its name, kind, alignment, size and tag
 abbrev Frame : Type 0

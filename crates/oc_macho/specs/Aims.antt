@@ -1,19 +1,13 @@
 -- What relocation entries refer to (Mach-O reference, "Relocation Data Structures"; our profile).
-use Rattle.std.specs.Prelude.{ℕ, ◌-◌, nat_eq, false, if◌then◌else◌, slice_get, Option, Some, None}
-use Rattle.std.specs.Option.{option_map, option_and_then}
-use Rattle.oc_linking.specs.declared.terms.Binding.{Binding}
-use Rattle.oc_linking.specs.declared.terms.Binding.TheVariants.{Local, Global, Undefined, Common, Weak}
-use Rattle.oc_linking.specs.Parts.{Symbol}
+use Rattle.std.specs.{Prelude.{ℕ, ◌-◌, nat_eq, false, if◌then◌else◌, slice_get, Option, Some, None}, Option.{option_map, option_and_then}}
+use Rattle.oc_linking.specs.{declared.terms.Binding.{Binding}, declared.terms.Binding.TheVariants.{Local, Global, Undefined, Common, Weak}, Parts.{Symbol}}
 use Rattle.oc_linking.specs.Targets.{Target, symbol_target}
 use Rattle.oc_neutral.specs.Normal.{Place, place_of}
 use Rattle.oc_shows.specs.RowFields.{place_target}
-use Rattle.oc_macho.specs.declared.nlist.Nlist.{Nlist}
-use Rattle.oc_macho.specs.declared.relocation_info.Reference.{Reference}
-use Rattle.oc_macho.specs.declared.relocation_info.Reference.TheVariants as reference
-use Rattle.oc_macho.specs.declared.relocation_info.RelocationInfo.{RelocationInfo}
-use Rattle.oc_macho.specs.Tables.{Tables}
-use Rattle.oc_macho.specs.Sections.{header_numbered, address_of, holder_of}
+use Rattle.oc_macho.specs.{declared.nlist.Nlist.{Nlist}, declared.relocation_info.Reference.{Reference}}
+use Rattle.oc_macho.specs.{declared.relocation_info.RelocationInfo.{RelocationInfo}, Tables.{Tables}, Sections.{header_numbered, address_of, holder_of}}
 use Rattle.oc_macho.specs.Symbols.{is_own, symbol_of}
+use Rattle.oc_macho.specs.declared.relocation_info.Reference.TheVariants as reference
 
 -- what an entry refers to
 pub record Aim : Type 0 where

@@ -1,20 +1,14 @@
 -- Relocation entries, alone and in pairs (Mach-O reference, "Relocation Data Structures"; our profile).
 use Rattle.std.specs.Prelude.{ℕ, zero, suc, ◌+◌, Bool, true, false, not, ◌&&◌, nat_eq, if◌then◌else◌, List, length, slice_get, filter, Option, Some, None}
-use Rattle.std.specs.Option.{option_map, option_map_or, option_and_then, is_some}
-use Rattle.std.specs.List.{list_any}
-use Rattle.oc_base.specs.declared.format.Word.{Word}
-use Rattle.oc_base.specs.declared.format.Word.TheVariants.{W32, W64}
+use Rattle.std.specs.{Option.{option_map, option_map_or, option_and_then, is_some}, List.{list_any}}
+use Rattle.oc_base.specs.{declared.format.Word.{Word}, declared.format.Word.TheVariants.{W32, W64}}
 use Rattle.oc_linking.specs.declared.terms.Keep.{Keep}
-use Rattle.oc_neutral.specs.declared.mach.TheConstants.{X86_64_RELOC_UNSIGNED, GENERIC_RELOC_PAIR}
-use Rattle.oc_neutral.specs.Rows.{TakesSection, same_taken}
+use Rattle.oc_neutral.specs.{declared.mach.TheConstants.{X86_64_RELOC_UNSIGNED, GENERIC_RELOC_PAIR}, Rows.{TakesSection, same_taken}}
 use Rattle.oc_neutral.specs.Mach.Relocs.{MachRow, mach_entries, entry_among}
 use Rattle.oc_shelf.specs.Reading.Firsts.{any_upto}
-use Rattle.oc_macho.specs.declared.entries.Item.{Item}
-use Rattle.oc_macho.specs.declared.relocation_info.RelocationInfo.{RelocationInfo}
-use Rattle.oc_macho.specs.declared.relocation_info.Reference.{Reference}
-use Rattle.oc_macho.specs.declared.relocation_info.Reference.TheVariants.{Symbol, Section, Address}
-use Rattle.oc_macho.specs.Tables.{SectionTable, Tables}
-use Rattle.oc_macho.specs.Sections.{is_kept}
+use Rattle.oc_macho.specs.{declared.entries.Item.{Item}, declared.relocation_info.RelocationInfo.{RelocationInfo}}
+use Rattle.oc_macho.specs.{declared.relocation_info.Reference.{Reference}, declared.relocation_info.Reference.TheVariants.{Symbol, Section, Address}}
+use Rattle.oc_macho.specs.{Tables.{SectionTable, Tables}, Sections.{is_kept}}
 
 -- entries of a type may refer to their targets so
 abbrev pub can_refer : MachRow → Reference → Bool

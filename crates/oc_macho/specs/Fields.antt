@@ -6,21 +6,14 @@
 use Rattle.std.specs.Prelude.{ℕ, ◌+◌, Bool, ◌||◌, nat_eq, if◌then◌else◌, ℤ, pos, ◌+ℤ◌, ◌-ℤ◌, length, slice_get, Option, Some, None}
 use Rattle.std.specs.Option.{option_map, option_map_or, option_and_then, unwrap_or, is_some}
 use Rattle.oc_base.specs.declared.format.Word.{Word}
-use Rattle.oc_linking.specs.Numbers.{minus, first_upto}
-use Rattle.oc_linking.specs.Placing.{Placement}
-use Rattle.oc_linking.specs.Values.{Valuation, place_site}
-use Rattle.oc_linking.specs.Rules.{Field}
+use Rattle.oc_linking.specs.{Numbers.{minus, first_upto}, Placing.{Placement}, Values.{Valuation, place_site}, Rules.{Field}}
 use Rattle.oc_algebra.specs.Residues.{residue_of}
-use Rattle.oc_neutral.specs.Normal.{Place}
-use Rattle.oc_neutral.specs.Rows.{TakesZero, TakesPlace, TakesGotBase, TakesImageBase, TakesHome, TakesSection, less_of}
+use Rattle.oc_neutral.specs.{Normal.{Place}, Rows.{TakesZero, TakesPlace, TakesGotBase, TakesImageBase, TakesHome, TakesSection, less_of}}
+use Rattle.oc_neutral.specs.Mach.Relocs.{MachRow}
 use Rattle.oc_shows.specs.RowFields.{number_in}
 use Rattle.oc_neutral.specs.Worth as worth
-use Rattle.oc_neutral.specs.Mach.Relocs.{MachRow}
-use Rattle.oc_macho.specs.declared.entries.Item.{Item}
-use Rattle.oc_macho.specs.Tables.{SectionTable, Tables}
-use Rattle.oc_macho.specs.Sections.{contents_of, address_of}
-use Rattle.oc_macho.specs.Entries.{row_for, item_at, target_entry, taken_entry}
-use Rattle.oc_macho.specs.Aims.{Aim, target_in}
+use Rattle.oc_macho.specs.{declared.entries.Item.{Item}, Tables.{SectionTable, Tables}, Sections.{contents_of, address_of}}
+use Rattle.oc_macho.specs.{Entries.{row_for, item_at, target_entry, taken_entry}, Aims.{Aim, target_in}}
 
 -- what is known of a field: its type, its target, and, of a pair, what is taken
 pub record FieldParts : Type 0 where

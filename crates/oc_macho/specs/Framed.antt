@@ -1,14 +1,10 @@
 -- A file whose header has no fault, as the reader holds it (Mach-O reference, "segment_command" and "symtab_command"; our profile).
 use Rattle.std.specs.Prelude.{◌≡◌, ℕ, ◌+◌, ◌*◌, ◌<◌, ◌≤◌, false, true, is_some, List, [], length, map, slice_index_or, None}
 use Rattle.oc_base.specs.declared.format.Word.{Word}
-use Rattle.oc_shelf.specs.Reading.Rows.{rows}
-use Rattle.oc_shelf.specs.Reading.Texts.{text_at}
-use Rattle.oc_macho.specs.declared.section_header.SectionHeader.{SectionHeader}
-use Rattle.oc_macho.specs.declared.relocation_info.TheConstants.{RELOCATION_INFO_SIZE}
-use Rattle.oc_macho.specs.SectionHeader.{section_header_size, section_header_at}
-use Rattle.oc_macho.specs.Nlist.{nlist_size, nlist_at}
-use Rattle.oc_macho.specs.Tables.{SectionTable, Tables, section_table, tables_of}
-use Rattle.oc_macho.specs.Sections.{is_zerofill}
+use Rattle.oc_shelf.specs.{Reading.Rows.{rows}, Reading.Texts.{text_at}}
+use Rattle.oc_macho.specs.{declared.section_header.SectionHeader.{SectionHeader}, declared.relocation_info.TheConstants.{RELOCATION_INFO_SIZE}}
+use Rattle.oc_macho.specs.{SectionHeader.{section_header_size, section_header_at}, Nlist.{nlist_size, nlist_at}}
+use Rattle.oc_macho.specs.{Tables.{SectionTable, Tables, section_table, tables_of}, Sections.{is_zerofill}}
 
 -- texts begin before a place, and none at it or after it
 pub record EndsTexts (strings : List ℕ) (end : ℕ) : Type 0 where

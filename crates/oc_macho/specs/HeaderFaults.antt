@@ -1,24 +1,16 @@
 -- What a file header and the load commands must meet (Mach-O reference, "mach_header" and "load_command"; our profile).
 use Rattle.std.specs.Prelude.{ℕ, ◌+◌, ◌*◌, ◌%◌, Bool, not, ◌||◌, nat_eq, nat_lt, if◌then◌else◌, List, [], ◌∷◌, ◌++◌, length, Option, Some, None, true}
 use Rattle.std.specs.Option.{option_map_or}
-use Rattle.oc_base.specs.declared.format.Word.{Word}
-use Rattle.oc_base.specs.declared.code.Code.{Code}
-use Rattle.oc_base.specs.declared.code.Code.TheVariants.{Short, NotRelocatable, BadHeader}
-use Rattle.oc_base.specs.declared.fault.Phase.TheVariants.{Header}
-use Rattle.oc_base.specs.declared.fault.Fault.{Fault}
+use Rattle.oc_base.specs.{declared.format.Word.{Word}, declared.code.Code.{Code}, declared.code.Code.TheVariants.{Short, NotRelocatable, BadHeader}}
+use Rattle.oc_base.specs.{declared.fault.Phase.TheVariants.{Header}, declared.fault.Fault.{Fault}}
 use Rattle.oc_linking.specs.FirstFault.{Condition, Stage}
-use Rattle.oc_shelf.specs.Reading.Firsts.{any_upto}
-use Rattle.oc_shelf.specs.Reading.Sums.{sum_upto}
+use Rattle.oc_shelf.specs.{Reading.Firsts.{any_upto}, Reading.Sums.{sum_upto}}
 use Rattle.oc_macho.specs.declared.constants.TheConstants.{MH_OBJECT, LC_SYMTAB, LC_DYSYMTAB}
 use Rattle.oc_macho.specs.declared.load_command.TheConstants.{LOAD_COMMAND_SIZE, DYSYMTAB_COMMAND_SIZE}
-use Rattle.oc_macho.specs.declared.symtab_command.TheConstants.{SYMTAB_COMMAND_SIZE}
-use Rattle.oc_macho.specs.declared.symtab_command.SymtabCommand.{SymtabCommand}
-use Rattle.oc_macho.specs.MachHeader.{mach_header_of, mach_header_size, cpu_type}
-use Rattle.oc_macho.specs.LoadCommand.{load_command_at}
-use Rattle.oc_macho.specs.SegmentCommand.{segment_number, foreign_number, segment_command_size, segment_command_at}
-use Rattle.oc_macho.specs.SectionHeader.{section_header_size}
-use Rattle.oc_macho.specs.Nlist.{nlist_size}
-use Rattle.oc_macho.specs.Tables.{command_count, command_place, is_command, symtab_of}
+use Rattle.oc_macho.specs.{declared.symtab_command.TheConstants.{SYMTAB_COMMAND_SIZE}, declared.symtab_command.SymtabCommand.{SymtabCommand}}
+use Rattle.oc_macho.specs.{MachHeader.{mach_header_of, mach_header_size, cpu_type}, LoadCommand.{load_command_at}}
+use Rattle.oc_macho.specs.{SegmentCommand.{segment_number, foreign_number, segment_command_size, segment_command_at}, SectionHeader.{section_header_size}}
+use Rattle.oc_macho.specs.{Nlist.{nlist_size}, Tables.{command_count, command_place, is_command, symtab_of}}
 
 -- a fault of the header, or of what it places
 abbrev pub header_fault : ℕ → Code → Fault

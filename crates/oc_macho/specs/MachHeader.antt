@@ -1,12 +1,8 @@
 -- The file header (Mach-O reference, "mach_header" and "mach_header_64").
 use Rattle.std.specs.Prelude.{ℕ, List}
-use Rattle.oc_base.specs.declared.format.Word.{Word}
-use Rattle.oc_base.specs.declared.format.Word.TheVariants.{W32, W64}
-use Rattle.oc_base.specs.declared.format.Format.{Format}
-use Rattle.oc_base.specs.declared.format.Format.TheVariants.{Mac32, Mac64}
-use Rattle.oc_base.specs.Numbers.{number_at}
-use Rattle.oc_macho.specs.declared.constants.TheConstants.{CPU_TYPE_X86, CPU_TYPE_X86_64}
-use Rattle.oc_macho.specs.declared.mach_header.MachHeader.{MachHeader}
+use Rattle.oc_base.specs.{declared.format.Word.{Word}, declared.format.Word.TheVariants.{W32, W64}, declared.format.Format.{Format}}
+use Rattle.oc_base.specs.{declared.format.Format.TheVariants.{Mac32, Mac64}, Numbers.{number_at}}
+use Rattle.oc_macho.specs.{declared.constants.TheConstants.{CPU_TYPE_X86, CPU_TYPE_X86_64}, declared.mach_header.MachHeader.{MachHeader}}
 
 -- the format of that word
 abbrev pub mach_format : Word → Format

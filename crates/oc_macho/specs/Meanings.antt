@@ -1,14 +1,10 @@
 -- What the types of relocation entries mean, by the tables of all formats (Mach-O reference, "Relocation Data Structures").
-use Rattle.std.specs.Prelude.{ℕ, Bool, false, if◌then◌else◌, Option, Some, None}
-use Rattle.std.specs.Option.{option_map, option_and_then}
+use Rattle.std.specs.{Prelude.{ℕ, Bool, false, if◌then◌else◌, Option, Some, None}, Option.{option_map, option_and_then}}
 use Rattle.oc_base.specs.declared.format.Word.{Word}
 use Rattle.oc_algebra.specs.declared.form.Form.{Form}
 use Rattle.oc_linking.specs.declared.terms.Hint.{Hint}
-use Rattle.oc_neutral.specs.Rows.{less_of}
-use Rattle.oc_neutral.specs.Mach.Relocs.{MachRow, mach_entries, entry_among}
-use Rattle.oc_macho.specs.declared.meaning.Meaning.{Meaning}
-use Rattle.oc_macho.specs.declared.relocation_info.RelocationInfo.{RelocationInfo}
-use Rattle.oc_macho.specs.Entries.{row_for}
+use Rattle.oc_neutral.specs.{Rows.{less_of}, Mach.Relocs.{MachRow, mach_entries, entry_among}}
+use Rattle.oc_macho.specs.{declared.meaning.Meaning.{Meaning}, declared.relocation_info.RelocationInfo.{RelocationInfo}, Entries.{row_for}}
 
 -- a form with a hint, whose value is taken from so many bytes after the field's place, and never by how far a section is moved
 abbrev pub meaning_with : Form → Hint → ℕ → Meaning

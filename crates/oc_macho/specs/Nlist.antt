@@ -1,10 +1,7 @@
 -- Symbol table entries (Mach-O reference, "nlist" and "nlist_64").
 use Rattle.std.specs.Prelude.{ℕ, ◌+◌, List}
-use Rattle.oc_base.specs.declared.format.Word.{Word}
-use Rattle.oc_base.specs.declared.format.Word.TheVariants.{W32, W64}
-use Rattle.oc_base.specs.Numbers.{number_at}
-use Rattle.oc_macho.specs.declared.nlist.Nlist.{Nlist}
-use Rattle.oc_macho.specs.MachHeader.{address_size}
+use Rattle.oc_base.specs.{declared.format.Word.{Word}, declared.format.Word.TheVariants.{W32, W64}, Numbers.{number_at}}
+use Rattle.oc_macho.specs.{declared.nlist.Nlist.{Nlist}, MachHeader.{address_size}}
 
 -- the size of one
 abbrev pub nlist_size : Word → ℕ

@@ -1,18 +1,11 @@
 -- What relocation entries refer to, as far as the conditions on them ask (our profile).
-use Rattle.std.specs.Prelude.{Bool, true, false, not, ◌&&◌, is_some, Option, Some, None}
-use Rattle.std.specs.Option.{option_map_or}
-use Rattle.oc_linking.specs.Rules.{Named, Symbolic, Sectional}
-use Rattle.oc_linking.specs.declared.terms.Base.TheVariants.{Slot}
-use Rattle.oc_linking.specs.declared.terms.Value.TheVariants as value
-use Rattle.oc_linking.specs.declared.terms.Binding.{Binding}
+use Rattle.std.specs.{Prelude.{Bool, true, false, not, ◌&&◌, is_some, Option, Some, None}, Option.{option_map_or}}
+use Rattle.oc_linking.specs.{Rules.{Named, Symbolic, Sectional}, declared.terms.Base.TheVariants.{Slot}, declared.terms.Binding.{Binding}}
 use Rattle.oc_linking.specs.declared.terms.Binding.TheVariants.{Local, Global, Undefined, Common, Weak}
-use Rattle.oc_neutral.specs.Mach.Relocs.{MachRow}
-use Rattle.oc_neutral.specs.Rows.{same_base}
-use Rattle.oc_macho.specs.declared.referent.Referent.{Referent}
-use Rattle.oc_macho.specs.declared.referent.Referent.TheVariants.{Nothing, Unfit, Fit}
-use Rattle.oc_macho.specs.declared.relocation_info.Reference.{Reference}
-use Rattle.oc_macho.specs.Tables.{Tables}
-use Rattle.oc_macho.specs.Aims.{Aim, aim_in}
+use Rattle.oc_linking.specs.declared.terms.Value.TheVariants as value
+use Rattle.oc_neutral.specs.{Mach.Relocs.{MachRow}, Rows.{same_base}}
+use Rattle.oc_macho.specs.{declared.referent.Referent.{Referent}, declared.referent.Referent.TheVariants.{Nothing, Unfit, Fit}}
+use Rattle.oc_macho.specs.{declared.relocation_info.Reference.{Reference}, Tables.{Tables}, Aims.{Aim, aim_in}}
 
 -- a name is that of a symbol that is seen by all files
 abbrev pub is_symbolic : Named → Bool

@@ -1,30 +1,17 @@
 -- What the relocation entries of kept sections must meet (Mach-O reference, "Relocation Data Structures"; our profile).
 use Rattle.std.specs.Prelude.{ℕ, ◌+◌, ◌*◌, ◌^◌, Bool, false, not, ◌&&◌, ◌||◌, nat_eq, nat_lt, if◌then◌else◌, is_none, ℤ, pos, ◌+ℤ◌, ◌-ℤ◌, List, [], ◌∷◌, ◌++◌, length, map, slice_get, Option}
-use Rattle.std.specs.List.{range_with_len}
-use Rattle.std.specs.Option.{option_map, option_map_or}
-use Rattle.oc_base.specs.declared.format.Word.{Word}
-use Rattle.oc_base.specs.declared.format.Word.TheVariants.{W32, W64}
-use Rattle.oc_base.specs.declared.code.Code.{Code}
+use Rattle.std.specs.{List.{range_with_len}, Option.{option_map, option_map_or}}
+use Rattle.oc_base.specs.{declared.format.Word.{Word}, declared.format.Word.TheVariants.{W32, W64}, declared.code.Code.{Code}}
 use Rattle.oc_base.specs.declared.code.Code.TheVariants.{RelocKind, BadPair, BadOffset, BadTarget, TargetKind, Overlap, FoldTooWide}
-use Rattle.oc_base.specs.declared.fault.Phase.TheVariants.{Relocation}
-use Rattle.oc_base.specs.declared.fault.Fault.{Fault}
-use Rattle.oc_linking.specs.declared.terms.Keep.{Keep}
-use Rattle.oc_linking.specs.Fits.{fits}
-use Rattle.oc_linking.specs.FirstFault.{Condition, Stage}
+use Rattle.oc_base.specs.{declared.fault.Phase.TheVariants.{Relocation}, declared.fault.Fault.{Fault}}
+use Rattle.oc_linking.specs.{declared.terms.Keep.{Keep}, Fits.{fits}, FirstFault.{Condition, Stage}}
 use Rattle.oc_algebra.specs.Residues.{residue_of}
-use Rattle.oc_neutral.specs.Normal.{Place}
-use Rattle.oc_neutral.specs.Dialects.{is_difference}
-use Rattle.oc_shelf.specs.Reading.Firsts.{any_upto}
-use Rattle.oc_shelf.specs.Reading.Spans.{meets}
-use Rattle.oc_macho.specs.declared.relocation_info.TheConstants.{RELOCATION_INFO_SIZE}
-use Rattle.oc_macho.specs.declared.relocation_info.RelocationInfo.{RelocationInfo}
-use Rattle.oc_macho.specs.declared.section_header.SectionHeader.{SectionHeader}
-use Rattle.oc_macho.specs.declared.entries.Item.{Item}
-use Rattle.oc_macho.specs.Tables.{SectionTable, Tables}
-use Rattle.oc_macho.specs.Sections.{is_zerofill, is_kept}
-use Rattle.oc_macho.specs.Entries.{row_for, is_first, is_second, is_known_second, item_at, target_entry, taken_reference}
-use Rattle.oc_macho.specs.Aims.{Aim}
-use Rattle.oc_macho.specs.Referents.{referent_in, is_nothing, reads_slot, cannot_be_target, cannot_be_taken}
+use Rattle.oc_neutral.specs.{Normal.{Place}, Dialects.{is_difference}}
+use Rattle.oc_shelf.specs.{Reading.Firsts.{any_upto}, Reading.Spans.{meets}}
+use Rattle.oc_macho.specs.{declared.relocation_info.TheConstants.{RELOCATION_INFO_SIZE}, declared.relocation_info.RelocationInfo.{RelocationInfo}}
+use Rattle.oc_macho.specs.{declared.section_header.SectionHeader.{SectionHeader}, declared.entries.Item.{Item}, Tables.{SectionTable, Tables}}
+use Rattle.oc_macho.specs.{Sections.{is_zerofill, is_kept}, Entries.{row_for, is_first, is_second, is_known_second, item_at, target_entry, taken_reference}}
+use Rattle.oc_macho.specs.{Aims.{Aim}, Referents.{referent_in, is_nothing, reads_slot, cannot_be_target, cannot_be_taken}}
 use Rattle.oc_macho.specs.Fields.{FieldParts, field_parts_by, added_by, number_of, field_of}
 
 -- a fault of a field of section i, counted from 0: the place is that of its first entry

@@ -1,10 +1,8 @@
 -- Relocation entries, scattered or not (Mach-O reference, "relocation_info" and "scattered_relocation_info").
 use Rattle.std.specs.Prelude.{ℕ, ◌+◌, ◌/◌, ◌%◌, ◌^◌, nat_eq, nat_le, if◌then◌else◌, List}
 use Rattle.oc_base.specs.Numbers.{number_at}
-use Rattle.oc_macho.specs.declared.constants.TheConstants.{R_SCATTERED}
-use Rattle.oc_macho.specs.declared.relocation_info.RelocationInfo.{RelocationInfo}
-use Rattle.oc_macho.specs.declared.relocation_info.Reference.{Reference}
-use Rattle.oc_macho.specs.declared.relocation_info.Reference.TheVariants.{Symbol, Section, Address}
+use Rattle.oc_macho.specs.{declared.constants.TheConstants.{R_SCATTERED}, declared.relocation_info.RelocationInfo.{RelocationInfo}}
+use Rattle.oc_macho.specs.{declared.relocation_info.Reference.{Reference}, declared.relocation_info.Reference.TheVariants.{Symbol, Section, Address}}
 
 -- a scattered entry of two words: the address in bits 0 to 23 of the first, the type in 24 to 27, the length in 28 and 29, r_pcrel in 30
 unfoldable pub scattered_of : ℕ → ℕ → RelocationInfo

@@ -1,22 +1,10 @@
 -- Mach-O, as one record of functions of a file's bytes (Mach-O reference; our profile).
 use Rattle.std.specs.Prelude.{ℕ, List, ◌∷◌, Option}
-use Rattle.oc_base.specs.declared.format.Word.{Word}
-use Rattle.oc_base.specs.declared.fault.Fault.{Fault}
-use Rattle.oc_linking.specs.declared.terms.Keep.{Keep}
-use Rattle.oc_linking.specs.FirstFault.{Stage, first_fault}
-use Rattle.oc_linking.specs.Parts.{Symbol}
-use Rattle.oc_linking.specs.Rules.{Rules}
-use Rattle.oc_neutral.specs.Alignments.{output_align, common_align}
-use Rattle.oc_neutral.specs.Dialects.{Dialect}
-use Rattle.oc_macho.specs.MachHeader.{mach_format}
-use Rattle.oc_macho.specs.Tables.{Tables, tables_of}
-use Rattle.oc_macho.specs.Sections.{sections_in}
-use Rattle.oc_macho.specs.Symbols.{symbols_by}
-use Rattle.oc_macho.specs.Entries.{is_pinned}
-use Rattle.oc_macho.specs.Fields.{fields_in}
-use Rattle.oc_macho.specs.HeaderFaults.{header_stage}
-use Rattle.oc_macho.specs.SectionFaults.{section_stage}
-use Rattle.oc_macho.specs.SymbolFaults.{symbol_stage}
+use Rattle.oc_base.specs.{declared.format.Word.{Word}, declared.fault.Fault.{Fault}}
+use Rattle.oc_linking.specs.{declared.terms.Keep.{Keep}, FirstFault.{Stage, first_fault}, Parts.{Symbol}, Rules.{Rules}}
+use Rattle.oc_neutral.specs.{Alignments.{output_align, common_align}, Dialects.{Dialect}}
+use Rattle.oc_macho.specs.{MachHeader.{mach_format}, Tables.{Tables, tables_of}, Sections.{sections_in}, Symbols.{symbols_by}, Entries.{is_pinned}}
+use Rattle.oc_macho.specs.{Fields.{fields_in}, HeaderFaults.{header_stage}, SectionFaults.{section_stage}, SymbolFaults.{symbol_stage}}
 use Rattle.oc_macho.specs.RelocationFaults.{relocation_stages}
 
 -- what is judged after the header

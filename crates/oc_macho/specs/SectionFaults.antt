@@ -1,24 +1,15 @@
 -- What the sections of a file must meet (Mach-O reference, "section"; our profile).
-use Rattle.std.specs.Prelude.{ℕ, ◌+◌, ◌*◌, Bool, not, ◌&&◌, ◌||◌, nat_lt, if◌then◌else◌, List, [], ◌∷◌, ◌++◌, length, slice_get}
-use Rattle.std.specs.List.{list_any}
+use Rattle.std.specs.{Prelude.{ℕ, ◌+◌, ◌*◌, Bool, not, ◌&&◌, ◌||◌, nat_lt, if◌then◌else◌, List, [], ◌∷◌, ◌++◌, length, slice_get}, List.{list_any}}
 use Rattle.std.specs.Option.{option_map_or}
 use Rattle.oc_base.specs.declared.code.Code.{Code}
 use Rattle.oc_base.specs.declared.code.Code.TheVariants.{AlignRange, SectionKind, BadTable, Short, LimitSection, LimitSum, LimitBytes}
-use Rattle.oc_base.specs.declared.fault.Phase.TheVariants.{Section}
-use Rattle.oc_base.specs.declared.fault.Fault.{Fault}
-use Rattle.oc_linking.specs.declared.terms.Kind.TheVariants.{Zero}
-use Rattle.oc_linking.specs.FirstFault.{Condition, Stage}
-use Rattle.oc_linking.specs.Numbers.{modulus}
-use Rattle.oc_neutral.specs.KindRules.{same_kind}
-use Rattle.oc_neutral.specs.Mach.Kinds.{is_comma, is_read_type}
+use Rattle.oc_base.specs.{declared.fault.Phase.TheVariants.{Section}, declared.fault.Fault.{Fault}}
+use Rattle.oc_linking.specs.{declared.terms.Kind.TheVariants.{Zero}, FirstFault.{Condition, Stage}, Numbers.{modulus}}
+use Rattle.oc_neutral.specs.{KindRules.{same_kind}, Mach.Kinds.{is_comma, is_read_type}}
 use Rattle.oc_shelf.specs.Reading.Sums.{sum_upto}
-use Rattle.oc_macho.specs.declared.constants.TheConstants.{MOST_ALIGN_EXPONENT}
-use Rattle.oc_macho.specs.declared.relocation_info.TheConstants.{RELOCATION_INFO_SIZE}
-use Rattle.oc_macho.specs.declared.section_header.SectionHeader.{SectionHeader}
-use Rattle.oc_macho.specs.SectionHeader.{section_header_size}
-use Rattle.oc_macho.specs.Tables.{SectionTable, Tables}
-use Rattle.oc_macho.specs.Sections.{segment_name, kind_of, is_zerofill}
-use Rattle.oc_macho.specs.HeaderFaults.{passes_end}
+use Rattle.oc_macho.specs.{declared.constants.TheConstants.{MOST_ALIGN_EXPONENT}, declared.relocation_info.TheConstants.{RELOCATION_INFO_SIZE}}
+use Rattle.oc_macho.specs.{declared.section_header.SectionHeader.{SectionHeader}, SectionHeader.{section_header_size}, Tables.{SectionTable, Tables}}
+use Rattle.oc_macho.specs.{Sections.{segment_name, kind_of, is_zerofill}, HeaderFaults.{passes_end}}
 
 -- a fault of section i, counted from 0
 abbrev pub section_fault : ℕ → ℕ → Code → Fault

@@ -1,8 +1,6 @@
 -- Section headers (Mach-O reference, "section" and "section_64").
 use Rattle.std.specs.Prelude.{ℕ, ◌+◌, List, take, drop}
-use Rattle.oc_base.specs.declared.format.Word.{Word}
-use Rattle.oc_base.specs.declared.format.Word.TheVariants.{W32, W64}
-use Rattle.oc_base.specs.Numbers.{number_at}
+use Rattle.oc_base.specs.{declared.format.Word.{Word}, declared.format.Word.TheVariants.{W32, W64}, Numbers.{number_at}}
 use Rattle.oc_macho.specs.declared.section_header.SectionHeader.{SectionHeader}
 
 -- the size of one

@@ -1,15 +1,9 @@
 -- Sections (Mach-O reference, "section"; our profile). All of them are carried.
 use Rattle.std.specs.Prelude.{ℕ, ◌+◌, ◌-◌, ◌^◌, Bool, ◌&&◌, ◌||◌, nat_eq, nat_le, nat_lt, if◌then◌else◌, List, map, find, replicate, slice_get, Option, None}
-use Rattle.std.specs.List.{before_first, enumerate_from}
-use Rattle.std.specs.Option.{option_map, option_map_or}
-use Rattle.oc_linking.specs.declared.terms.Keep.{Keep}
-use Rattle.oc_linking.specs.declared.terms.Kind.{Kind}
-use Rattle.oc_linking.specs.Keeping.{keeps}
-use Rattle.oc_linking.specs.Numbers.{or_else}
-use Rattle.oc_linking.specs.Parts.{Section}
+use Rattle.std.specs.{List.{before_first, enumerate_from}, Option.{option_map, option_map_or}}
+use Rattle.oc_linking.specs.{declared.terms.Keep.{Keep}, declared.terms.Kind.{Kind}, Keeping.{keeps}, Numbers.{or_else}, Parts.{Section}}
 use Rattle.oc_neutral.specs.Mach.Kinds.{mach_name, mach_kind, mach_tag, is_zerofill_tag}
-use Rattle.oc_macho.specs.declared.section_header.SectionHeader.{SectionHeader}
-use Rattle.oc_macho.specs.Tables.{SectionTable, Tables}
+use Rattle.oc_macho.specs.{declared.section_header.SectionHeader.{SectionHeader}, Tables.{SectionTable, Tables}}
 
 -- the bytes before the first NUL, or all
 abbrev pub until_nul : List ℕ → List ℕ

@@ -1,10 +1,7 @@
 -- The command for a segment (Mach-O reference, "segment_command" and "segment_command_64").
 use Rattle.std.specs.Prelude.{ℕ, ◌+◌, List, take, drop}
-use Rattle.oc_base.specs.declared.format.Word.{Word}
-use Rattle.oc_base.specs.declared.format.Word.TheVariants.{W32, W64}
-use Rattle.oc_base.specs.Numbers.{number_at}
-use Rattle.oc_macho.specs.declared.constants.TheConstants.{LC_SEGMENT, LC_SEGMENT_64}
-use Rattle.oc_macho.specs.declared.segment_command.SegmentCommand.{SegmentCommand}
+use Rattle.oc_base.specs.{declared.format.Word.{Word}, declared.format.Word.TheVariants.{W32, W64}, Numbers.{number_at}}
+use Rattle.oc_macho.specs.{declared.constants.TheConstants.{LC_SEGMENT, LC_SEGMENT_64}, declared.segment_command.SegmentCommand.{SegmentCommand}}
 
 -- the number of the command in files of that word
 abbrev pub segment_number : Word → ℕ

@@ -1,24 +1,15 @@
 -- The structures of both words as bytes (Mach-O reference, "mach_header", "segment_command", "section", "symtab_command",
 -- "dysymtab_command", "nlist", "relocation_info" and "scattered_relocation_info"); those that are longer than a row in two runs.
 use Rattle.std.specs.Prelude.{ℕ, ◌+◌, ◌*◌, ◌^◌, List, [], ◌∷◌, ◌++◌, take, replicate}
-use Rattle.oc_base.specs.declared.format.Word.{Word}
-use Rattle.oc_base.specs.declared.format.Word.TheVariants.{W32, W64}
+use Rattle.oc_base.specs.{declared.format.Word.{Word}, declared.format.Word.TheVariants.{W32, W64}}
 use Rattle.oc_shelf.specs.Writing.Packed.{packed}
 use Rattle.oc_macho.specs.declared.constants.TheConstants.{MH_MAGIC, MH_MAGIC_64, LC_SYMTAB, LC_DYSYMTAB, R_SCATTERED}
-use Rattle.oc_macho.specs.declared.load_command.TheConstants.{DYSYMTAB_COMMAND_SIZE}
-use Rattle.oc_macho.specs.declared.names.TheConstants.{NAME_SIZE}
-use Rattle.oc_macho.specs.declared.symtab_command.TheConstants.{SYMTAB_COMMAND_SIZE}
-use Rattle.oc_macho.specs.declared.mach_header.MachHeader.{MachHeader}
-use Rattle.oc_macho.specs.declared.segment_command.SegmentCommand.{SegmentCommand}
-use Rattle.oc_macho.specs.declared.section_header.SectionHeader.{SectionHeader}
-use Rattle.oc_macho.specs.declared.symtab_command.SymtabCommand.{SymtabCommand}
-use Rattle.oc_macho.specs.declared.structures.Dysymtab.{Dysymtab}
-use Rattle.oc_macho.specs.declared.nlist.Nlist.{Nlist}
-use Rattle.oc_macho.specs.declared.relocation_info.Reference.{Reference}
-use Rattle.oc_macho.specs.declared.relocation_info.Reference.TheVariants.{Symbol, Section, Address}
-use Rattle.oc_macho.specs.declared.relocation_info.RelocationInfo.{RelocationInfo}
-use Rattle.oc_macho.specs.MachHeader.{address_size}
-use Rattle.oc_macho.specs.SegmentCommand.{segment_number}
+use Rattle.oc_macho.specs.{declared.load_command.TheConstants.{DYSYMTAB_COMMAND_SIZE}, declared.names.TheConstants.{NAME_SIZE}}
+use Rattle.oc_macho.specs.{declared.symtab_command.TheConstants.{SYMTAB_COMMAND_SIZE}, declared.mach_header.MachHeader.{MachHeader}}
+use Rattle.oc_macho.specs.{declared.segment_command.SegmentCommand.{SegmentCommand}, declared.section_header.SectionHeader.{SectionHeader}}
+use Rattle.oc_macho.specs.{declared.symtab_command.SymtabCommand.{SymtabCommand}, declared.structures.Dysymtab.{Dysymtab}, declared.nlist.Nlist.{Nlist}}
+use Rattle.oc_macho.specs.{declared.relocation_info.Reference.{Reference}, declared.relocation_info.Reference.TheVariants.{Symbol, Section, Address}}
+use Rattle.oc_macho.specs.{declared.relocation_info.RelocationInfo.{RelocationInfo}, MachHeader.{address_size}, SegmentCommand.{segment_number}}
 
 -- the first bytes of a file of that word
 abbrev pub magic_of : Word → ℕ

@@ -1,19 +1,13 @@
 -- What the symbols of a file must meet (Mach-O reference, "nlist"; our profile).
 use Rattle.std.specs.Prelude.{ℕ, ◌+◌, ◌*◌, Bool, false, not, ◌&&◌, ◌||◌, nat_lt, if◌then◌else◌, bytes_eq, is_none, is_some, List, [], ◌∷◌, ◌++◌, length, map, slice_get, Option, Some, None}
 use Rattle.std.specs.Option.{option_map_or}
-use Rattle.oc_base.specs.declared.code.Code.{Code}
-use Rattle.oc_base.specs.declared.code.Code.TheVariants.{BadName, SymbolKind, BadSymbol, SymbolPastEnd, DuplicateName}
-use Rattle.oc_base.specs.declared.fault.Phase.TheVariants.{Symbol}
-use Rattle.oc_base.specs.declared.fault.Fault.{Fault}
+use Rattle.oc_base.specs.{declared.code.Code.{Code}, declared.code.Code.TheVariants.{BadName, SymbolKind, BadSymbol, SymbolPastEnd, DuplicateName}}
+use Rattle.oc_base.specs.{declared.fault.Phase.TheVariants.{Symbol}, declared.fault.Fault.{Fault}}
 use Rattle.oc_linking.specs.FirstFault.{Condition, Stage}
 use Rattle.oc_neutral.specs.KindRules.{has}
 use Rattle.oc_strings.specs.Repeats.{NameList, repeat_at}
-use Rattle.oc_macho.specs.declared.constants.TheConstants.{N_UNDF, N_ABS, N_SECT, N_WEAK_DEF}
-use Rattle.oc_macho.specs.declared.section_header.SectionHeader.{SectionHeader}
-use Rattle.oc_macho.specs.declared.nlist.Nlist.{Nlist}
-use Rattle.oc_macho.specs.Nlist.{nlist_size}
-use Rattle.oc_macho.specs.Tables.{Tables}
-use Rattle.oc_macho.specs.Sections.{header_numbered}
+use Rattle.oc_macho.specs.{declared.constants.TheConstants.{N_UNDF, N_ABS, N_SECT, N_WEAK_DEF}, declared.section_header.SectionHeader.{SectionHeader}}
+use Rattle.oc_macho.specs.{declared.nlist.Nlist.{Nlist}, Nlist.{nlist_size}, Tables.{Tables}, Sections.{header_numbered}}
 use Rattle.oc_macho.specs.Symbols.{name_at, name_of, is_stab, is_type, is_external}
 
 -- a fault of symbol number j

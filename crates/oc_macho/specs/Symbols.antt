@@ -1,24 +1,15 @@
 -- Symbols (Mach-O reference, "nlist"; our profile).
 use Rattle.std.specs.Prelude.{ℕ, ◌-◌, ◌*◌, ◌/◌, ◌%◌, ◌^◌, Bool, false, not, ◌&&◌, ◌||◌, nat_eq, bytes_eq, if◌then◌else◌, List, [], filter_map, Option, Some, None}
-use Rattle.std.specs.Option.{option_map_or, unwrap_or}
-use Rattle.std.specs.List.{enumerate_from}
-use Rattle.oc_base.specs.declared.format.Word.{Word}
-use Rattle.oc_base.specs.declared.format.Word.TheVariants.{W32, W64}
-use Rattle.oc_linking.specs.declared.terms.Mark.TheVariants.{NoType}
-use Rattle.oc_linking.specs.declared.terms.Visibility.TheVariants.{Default, Hidden}
-use Rattle.oc_linking.specs.declared.terms.Value.{Value}
+use Rattle.std.specs.{Option.{option_map_or, unwrap_or}, List.{enumerate_from}}
+use Rattle.oc_base.specs.{declared.format.Word.{Word}, declared.format.Word.TheVariants.{W32, W64}}
+use Rattle.oc_linking.specs.{declared.terms.Mark.TheVariants.{NoType}, declared.terms.Visibility.TheVariants.{Default, Hidden}, declared.terms.Value.{Value}}
+use Rattle.oc_linking.specs.{declared.terms.Binding.{Binding}, declared.terms.Binding.TheVariants.{Local, Global, Undefined, Common, Weak}, Parts.{Symbol}}
 use Rattle.oc_linking.specs.declared.terms.Value.TheVariants as value
 use Rattle.oc_linking.specs.declared.terms.Fallback.TheVariants as fallback
-use Rattle.oc_linking.specs.declared.terms.Binding.{Binding}
-use Rattle.oc_linking.specs.declared.terms.Binding.TheVariants.{Local, Global, Undefined, Common, Weak}
-use Rattle.oc_linking.specs.Parts.{Symbol}
-use Rattle.oc_neutral.specs.KindRules.{has}
-use Rattle.oc_neutral.specs.Mach.SectionSymbols.{section_symbol_name}
+use Rattle.oc_neutral.specs.{KindRules.{has}, Mach.SectionSymbols.{section_symbol_name}}
 use Rattle.oc_shelf.specs.Reading.Texts.{text_at}
 use Rattle.oc_macho.specs.declared.constants.TheConstants.{N_UNDF, N_ABS, N_SECT, N_EXT, N_PEXT, N_WEAK_REF, N_WEAK_DEF}
-use Rattle.oc_macho.specs.declared.section_header.SectionHeader.{SectionHeader}
-use Rattle.oc_macho.specs.declared.nlist.Nlist.{Nlist}
-use Rattle.oc_macho.specs.Tables.{Tables}
+use Rattle.oc_macho.specs.{declared.section_header.SectionHeader.{SectionHeader}, declared.nlist.Nlist.{Nlist}, Tables.{Tables}}
 use Rattle.oc_macho.specs.Sections.{header_numbered, address_of}
 
 -- the name of a symbol: the text at its place among the strings; none where no NUL ends it

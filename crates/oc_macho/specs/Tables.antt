@@ -1,24 +1,15 @@
 -- The structures of a Mach-O file where its commands place them (Mach-O reference, "load_command", "segment_command" and "symtab_command").
-use Rattle.std.specs.Prelude.{ℕ, ◌+◌, Bool, nat_eq, if◌then◌else◌, List, [], length, take, drop, map, Option, Some, None}
-use Rattle.std.specs.Option.{option_map, option_map_or}
+use Rattle.std.specs.{Prelude.{ℕ, ◌+◌, Bool, nat_eq, if◌then◌else◌, List, [], length, take, drop, map, Option, Some, None}, Option.{option_map, option_map_or}}
 use Rattle.oc_base.specs.declared.format.Word.{Word}
 use Rattle.oc_linking.specs.Numbers.{first_upto}
 use Rattle.oc_neutral.specs.Mach.Kinds.{is_zerofill_tag}
-use Rattle.oc_shelf.specs.Reading.Rows.{rows}
-use Rattle.oc_shelf.specs.Reading.Steps.{step_place}
-use Rattle.oc_macho.specs.declared.constants.TheConstants.{LC_SYMTAB}
-use Rattle.oc_macho.specs.declared.relocation_info.TheConstants.{RELOCATION_INFO_SIZE}
-use Rattle.oc_macho.specs.declared.section_header.SectionHeader.{SectionHeader}
-use Rattle.oc_macho.specs.declared.nlist.Nlist.{Nlist}
-use Rattle.oc_macho.specs.declared.relocation_info.RelocationInfo.{RelocationInfo}
-use Rattle.oc_macho.specs.declared.symtab_command.SymtabCommand.{SymtabCommand}
-use Rattle.oc_macho.specs.MachHeader.{mach_header_size, mach_header_of}
-use Rattle.oc_macho.specs.LoadCommand.{load_command_at}
-use Rattle.oc_macho.specs.SegmentCommand.{segment_number, segment_command_size, segment_command_at}
-use Rattle.oc_macho.specs.SymtabCommand.{symtab_command_at}
-use Rattle.oc_macho.specs.SectionHeader.{section_header_size, section_header_at}
-use Rattle.oc_macho.specs.Nlist.{nlist_size, nlist_at}
-use Rattle.oc_macho.specs.RelocationInfo.{relocation_info_at}
+use Rattle.oc_shelf.specs.{Reading.Rows.{rows}, Reading.Steps.{step_place}}
+use Rattle.oc_macho.specs.{declared.constants.TheConstants.{LC_SYMTAB}, declared.relocation_info.TheConstants.{RELOCATION_INFO_SIZE}}
+use Rattle.oc_macho.specs.{declared.section_header.SectionHeader.{SectionHeader}, declared.nlist.Nlist.{Nlist}}
+use Rattle.oc_macho.specs.{declared.relocation_info.RelocationInfo.{RelocationInfo}, declared.symtab_command.SymtabCommand.{SymtabCommand}}
+use Rattle.oc_macho.specs.{MachHeader.{mach_header_size, mach_header_of}, LoadCommand.{load_command_at}}
+use Rattle.oc_macho.specs.{SegmentCommand.{segment_number, segment_command_size, segment_command_at}, SymtabCommand.{symtab_command_at}}
+use Rattle.oc_macho.specs.{SectionHeader.{section_header_size, section_header_at}, Nlist.{nlist_size, nlist_at}, RelocationInfo.{relocation_info_at}}
 
 -- a section: its header, its bytes in the file (none where its type is ZEROFILL), and its relocation entries
 pub record SectionTable : Type 0 where

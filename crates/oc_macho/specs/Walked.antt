@@ -2,12 +2,8 @@
 use Rattle.std.specs.Prelude.{◌≡◌, ℕ, ◌+◌, ◌≤◌, Bool, false, nat_eq, if◌then◌else◌, List, Option, Some, None}
 use Rattle.oc_base.specs.declared.format.Word.{Word}
 use Rattle.oc_linking.specs.Numbers.{or_else}
-use Rattle.oc_macho.specs.declared.constants.TheConstants.{LC_SYMTAB}
-use Rattle.oc_macho.specs.declared.commands.Commands.{Commands}
-use Rattle.oc_macho.specs.declared.load_command.LoadCommand.{LoadCommand}
-use Rattle.oc_macho.specs.LoadCommand.{load_command_at}
-use Rattle.oc_macho.specs.SegmentCommand.{segment_number}
-use Rattle.oc_macho.specs.Tables.{command_place, first_command}
+use Rattle.oc_macho.specs.{declared.constants.TheConstants.{LC_SYMTAB}, declared.commands.Commands.{Commands}, declared.load_command.LoadCommand.{LoadCommand}}
+use Rattle.oc_macho.specs.{LoadCommand.{load_command_at}, SegmentCommand.{segment_number}, Tables.{command_place, first_command}}
 use Rattle.oc_macho.specs.HeaderFaults.{any_bad, commands_end, count_upto, has_bad_commands, is_bad}
 
 -- the command at a place is this one, which breaks no rule and lies before that end

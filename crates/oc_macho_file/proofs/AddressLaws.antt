@@ -1,15 +1,11 @@
 -- The addresses of an output's sections: where they are found, that sections do not overlap, and that all end below 2^32.
 use Rattle.std.proofs.Common.{◌≡◌, ℕ, zero, suc, ◌+◌, ◌-◌, ◌*◌, ◌%◌, ◌≤◌, ◌⊎◌, inl, inr, Bool, true, false, not, cond, List, [], ◌∷◌, ◌++◌, length, Some, refl, sym, ◌∙◌, ap, subst, arith, length-append}
-use Rattle.std.specs.Prelude.{slice_get}
-use Rattle.std.specs.List.{enumerate_from, filter, sum_by}
+use Rattle.std.specs.{Prelude.{slice_get}, List.{enumerate_from, filter, sum_by}}
 use Rattle.std.proofs.Math.Nat.{mod-le}
-use Rattle.std.proofs.lemmas.Bool.{eqb-true, eq-eqb, cases_lt}
-use Rattle.std.proofs.lemmas.List.FromFn.{length-enumerate_from}
-use Rattle.std.proofs.lemmas.List.Sums.{sum_by-cons, sum_by-append}
+use Rattle.std.proofs.lemmas.{Bool.{eqb-true, eq-eqb, cases_lt}, List.FromFn.{length-enumerate_from}, List.Sums.{sum_by-cons, sum_by-append}}
 use Rattle.std.proofs.lemmas.Option.{none-some, same_Some}
 use Rattle.oc_base.specs.declared.format.Word.{Word}
-use Rattle.oc_neutral.specs.declared.section.Section.{Section}
-use Rattle.oc_neutral.specs.Objects.{Object}
+use Rattle.oc_neutral.specs.{declared.section.Section.{Section}, Objects.{Object}}
 use Rattle.oc_shelf.specs.Writing.Parts.{Laid, laid, laid_end, aligned}
 use Rattle.oc_shelf.proofs.WritingLaws.MemberLemmas.{member_first, member_second, member_enumerated, of_append, of_enumerated, of_filter, member_filter}
 use Rattle.oc_shelf.proofs.WritingLaws.PartLemmas.{IsFound, place_found, laid_after}

@@ -4,21 +4,13 @@ use mathlib.Core.Path.{fun_ext}
 use Rattle.std.specs.Option.{option_map, option_map_or}
 use Rattle.oc_linking.specs.declared.terms.Base.TheVariants as base
 use Rattle.oc_linking.specs.declared.terms.Less.TheVariants as less
-use Rattle.oc_linking.specs.Keeping.{all}
-use Rattle.oc_linking.specs.Images.{overlays}
-use Rattle.oc_linking.specs.Linking.{patch_of}
-use Rattle.oc_linking.specs.Parts as parts
-use Rattle.oc_linking.specs.Placing.{Placement}
-use Rattle.oc_linking.specs.Rules.{Field}
-use Rattle.oc_linking.specs.Shows.{Apart, lives, unders}
+use Rattle.oc_linking.specs.{Keeping.{all}, Images.{overlays}, Linking.{patch_of}, Placing.{Placement}, Rules.{Field}, Shows.{Apart, lives, unders}}
 use Rattle.oc_linking.specs.Values.{Valuation}
+use Rattle.oc_linking.specs.Parts as parts
 use Rattle.oc_neutral.specs.declared.reloc.Target.TheVariants as target
-use Rattle.oc_shows.specs.Again.{IsReadAgain}
+use Rattle.oc_shows.specs.{Again.{IsReadAgain}, Shows.{Shows}}
 use Rattle.oc_neutral.specs.Dialects.{Dialect, target_by, is_difference, is_kept, kept_fields, is_folded, look_of, less_in, looks_in, patches_in}
-use Rattle.oc_neutral.specs.Invariants.{IsObject}
-use Rattle.oc_neutral.specs.Normal.{cancels, takes_section}
-use Rattle.oc_neutral.specs.Objects.{Object}
-use Rattle.oc_shows.specs.Shows.{Shows}
+use Rattle.oc_neutral.specs.{Invariants.{IsObject}, Normal.{cancels, takes_section}, Objects.{Object}}
 use Rattle.oc_shows.proofs.AgainLaws.{read_again_shows}
 use Rattle.oc_neutral.proofs.NormalLemmas.{cancels-place}
 

@@ -1,36 +1,21 @@
 -- The entries of a canonical file refer to the targets of their relocations.
 use Rattle.std.proofs.Common.{◌≡◌, ℕ, ◌+◌, ◌-◌, ◌<◌, ◌≤◌, true, false, ◌&&◌, cond, eqb, List, [], Some, None, refl, sym, ◌∙◌, ap, inl, inr, arith}
-use Rattle.std.specs.Prelude.{slice_get, nat_eq, nat_le, nat_lt, bytes_eq, find}
-use Rattle.std.specs.List.{enumerate_from}
+use Rattle.std.specs.{Prelude.{slice_get, nat_eq, nat_le, nat_lt, bytes_eq, find}, List.{enumerate_from}}
 use Rattle.std.specs.Option.{option_map, option_map_or, option_and_then, unwrap_or}
-use Rattle.std.proofs.lemmas.Bool.{eq-eqb, ne_eqb}
-use Rattle.std.proofs.lemmas.Bool.Decides.{nat_tests}
-use Rattle.std.proofs.lemmas.Slice.Eq.{bytes_eq-Decides}
-use Rattle.oc_base.specs.declared.format.Word.{Word}
-use Rattle.oc_base.specs.declared.format.Word.TheVariants.{W64}
+use Rattle.std.proofs.lemmas.{Bool.{eq-eqb, ne_eqb}, Bool.Decides.{nat_tests}, Slice.Eq.{bytes_eq-Decides}}
+use Rattle.oc_base.specs.{declared.format.Word.{Word}, declared.format.Word.TheVariants.{W64}}
 use Rattle.oc_linking.specs.Numbers.{or_else}
-use Rattle.oc_neutral.specs.declared.section.Section.{Section}
-use Rattle.oc_neutral.specs.Mach.SectionSymbols.{section_symbol_name}
-use Rattle.oc_neutral.specs.Objects.{Object}
+use Rattle.oc_neutral.specs.{declared.section.Section.{Section}, Mach.SectionSymbols.{section_symbol_name}, Objects.{Object}}
 use Rattle.oc_shelf.proofs.WritingLaws.MemberLemmas.{member_map, member_enumerated, of_map, find_first, of_enumerated}
-use Rattle.oc_macho.specs.declared.section_header.SectionHeader.{SectionHeader}
-use Rattle.oc_macho.specs.declared.relocation_info.Reference.TheVariants as reference
-use Rattle.oc_macho.specs.Tables.{SectionTable, Tables}
-use Rattle.oc_macho.specs.Sections.{header_numbered, holder_of, lies_in, lies_at}
-use Rattle.oc_macho.specs.Sections as read
-use Rattle.oc_macho.specs.Symbols.{name_of, is_own_in, is_own, symbol_of}
+use Rattle.oc_macho.specs.{declared.section_header.SectionHeader.{SectionHeader}, Tables.{SectionTable, Tables}}
+use Rattle.oc_macho.specs.{Sections.{header_numbered, holder_of, lies_in, lies_at}, Symbols.{name_of, is_own_in, is_own, symbol_of}}
 use Rattle.oc_macho.specs.Aims.{section_aim, symbol_aim, numbered_aim, aim_of, aim_in}
-use Rattle.oc_macho_file.specs.Addresses.{address_of}
-use Rattle.oc_macho_file.specs.Lines.{Line, OwnLine, lines_of, numbered_lines, own_number}
-use Rattle.oc_macho_file.specs.Symbols.{line_entry, own_entry}
+use Rattle.oc_macho.specs.declared.relocation_info.Reference.TheVariants as reference
+use Rattle.oc_macho.specs.Sections as read
+use Rattle.oc_macho_file.specs.{Addresses.{address_of}, Lines.{Line, OwnLine, lines_of, numbered_lines, own_number}, Symbols.{line_entry, own_entry}}
 use Rattle.oc_macho_file.specs.Canonical.{section_header}
-use Rattle.oc_macho_file.proofs.TableLaws.{made_table, made_sections, made_tables}
-use Rattle.oc_macho_file.proofs.CodedLaws.{IsForMach}
-use Rattle.oc_macho_file.proofs.LineLaws.{own_found}
-use Rattle.oc_macho_file.proofs.NameLaws.{line_named}
-use Rattle.oc_macho_file.proofs.SectionLaws.{header_made, address_made, table_at}
-use Rattle.oc_macho_file.proofs.AddressLaws.{sections_apart}
-use Rattle.oc_macho_file.proofs.PinLaws.{Needed}
+use Rattle.oc_macho_file.proofs.{TableLaws.{made_table, made_sections, made_tables}, CodedLaws.{IsForMach}, LineLaws.{own_found}, NameLaws.{line_named}}
+use Rattle.oc_macho_file.proofs.{SectionLaws.{header_made, address_made, table_at}, AddressLaws.{sections_apart}, PinLaws.{Needed}}
 
 pub same_bytes : (m : List ℕ) → bytes_eq m m ≡ true
 same_bytes m = grind (arith, bytes_eq-Decides)

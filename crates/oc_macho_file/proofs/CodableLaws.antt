@@ -1,42 +1,26 @@
 -- The numbers of relocation entries fit their bits, and so all numbers of a file of fewer than 2^32 bytes with fewer than 2^24 symbols.
 use Rattle.std.proofs.Common.{◌≡◌, ℕ, zero, suc, ◌+◌, ◌^◌, ◌<◌, ◌≤◌, inl, inr, Bool, true, false, cond, List, [], ◌∷◌, ◌++◌, length, Option, Some, None, refl, sym, ◌∙◌, ap, subst, arith, length-append}
-use Rattle.std.specs.Prelude.{slice_get, flat_map}
-use Rattle.std.specs.Option.{option_map_or}
-use Rattle.std.proofs.lemmas.Bool.{true≢false}
-use Rattle.std.proofs.lemmas.Option.{none-some, same_Some}
-use Rattle.oc_base.specs.declared.format.Word.{Word}
-use Rattle.oc_base.specs.declared.format.Word.TheVariants.{W32, W64}
+use Rattle.std.specs.{Prelude.{slice_get, flat_map}, Option.{option_map_or}}
+use Rattle.std.proofs.lemmas.{Bool.{true≢false}, Option.{none-some, same_Some}}
+use Rattle.oc_base.specs.{declared.format.Word.{Word}, declared.format.Word.TheVariants.{W32, W64}}
 use Rattle.oc_chains.specs.Lists.{list_of}
-use Rattle.oc_linking.specs.declared.terms.Width.{Width}
-use Rattle.oc_linking.specs.declared.terms.Width.TheVariants.{One, Two, Four, Eight}
-use Rattle.oc_neutral.specs.declared.reloc.Reloc.{Reloc}
-use Rattle.oc_neutral.specs.declared.reloc.Target.{Target}
+use Rattle.oc_linking.specs.{declared.terms.Width.{Width}, declared.terms.Width.TheVariants.{One, Two, Four, Eight}}
+use Rattle.oc_neutral.specs.{declared.reloc.Reloc.{Reloc}, declared.reloc.Target.{Target}, Invariants.{IsThere}, Mach.Relocs.{MachRow, length_of}}
+use Rattle.oc_neutral.specs.{Normal.{Place}, Objects.{Object, reloc_at}, Rows.{TakesPlace, same_taken}}
 use Rattle.oc_neutral.specs.declared.reloc.Target.TheVariants as target
-use Rattle.oc_neutral.specs.Invariants.{IsThere}
-use Rattle.oc_neutral.specs.Mach.Relocs.{MachRow, length_of}
-use Rattle.oc_neutral.specs.Normal.{Place}
-use Rattle.oc_neutral.specs.Objects.{Object, reloc_at}
-use Rattle.oc_neutral.specs.Rows.{TakesPlace, same_taken}
 use Rattle.oc_shelf.specs.Writing.Parts.{laid_end, behind, place_where}
-use Rattle.oc_shelf.proofs.WritingLaws.MemberLemmas.{of_append, of_map}
-use Rattle.oc_shelf.proofs.WritingLaws.PackedLemmas.{Fit}
-use Rattle.oc_macho.specs.declared.relocation_info.RelocationInfo.{RelocationInfo}
-use Rattle.oc_macho.specs.MachHeader.{mach_format}
+use Rattle.oc_shelf.proofs.{WritingLaws.MemberLemmas.{of_append, of_map}, WritingLaws.PackedLemmas.{Fit}}
+use Rattle.oc_macho.specs.{declared.relocation_info.RelocationInfo.{RelocationInfo}, MachHeader.{mach_format}}
 use Rattle.oc_macho_file.specs.Addresses.{is_at, mapped, section_begin, size_of, address_of, memory_end}
 use Rattle.oc_macho_file.specs.Bodies.{WrittenReloc, end_place, end_section_address, reference_to, plain_entry, scattered_entry, taken_section}
 use Rattle.oc_macho_file.specs.Layout.{relocs_of}
 use Rattle.oc_macho_file.specs.Lines.{Line, lines_of, inner_lines, defined_lines, undefined_lines, line_size, numbered_lines, is_own_line, is_symbol_line}
 use Rattle.oc_macho_file.specs.Canonical.{dysymtab_numbers, mach_file}
-use Rattle.oc_macho_file.proofs.StructureLaws.{FitsInfo}
-use Rattle.oc_macho_file.proofs.TableLaws.{IsCodable}
-use Rattle.oc_macho_file.proofs.CodedLaws.{IsForMach, size_low, stored_all}
-use Rattle.oc_macho_file.proofs.ItemLaws.{written_entries}
+use Rattle.oc_macho_file.proofs.{StructureLaws.{FitsInfo}, TableLaws.{IsCodable}, CodedLaws.{IsForMach, size_low, stored_all}, ItemLaws.{written_entries}}
 use Rattle.oc_macho_file.proofs.RowLaws.{IsKnown, KnownAlone, KnownPair, IsPairRow}
 use Rattle.oc_macho_file.proofs.EntryLaws.{written_pair, written_by, written_standing, written_field, mach_reloc, meets, entry, known, row_is, standing, written_is, has_size, field_there, written_all, entries_are}
-use Rattle.oc_macho_file.proofs.PinLaws.{IsTakenSection, Another, Own, taken_is}
-use Rattle.oc_macho_file.proofs.AddressLaws.{ordered, section_rises, laid_inside, memory_low}
-use Rattle.oc_macho_file.proofs.SymbolFits.{lines_fit}
-use Rattle.oc_macho_file.proofs.HeaderFits.{where_low, name_low, head_fits, segment_fits, symtab_fits, headers_fit}
+use Rattle.oc_macho_file.proofs.{PinLaws.{IsTakenSection, Another, Own, taken_is}, AddressLaws.{ordered, section_rises, laid_inside, memory_low}}
+use Rattle.oc_macho_file.proofs.{SymbolFits.{lines_fit}, HeaderFits.{where_low, name_low, head_fits, segment_fits, symtab_fits, headers_fit}}
 use Rattle.oc_neutral.proofs.Adding.{wide_enough}
 
 -- what stands in a list of lists stands in one of them

@@ -1,40 +1,21 @@
 -- What Mach-O can say of an object that is ready for it.
 use Rattle.std.proofs.Common.{◌≡◌, ℕ, zero, suc, ◌+◌, ◌*◌, ◌^◌, ◌<◌, ◌≤◌, ◌⊎◌, inl, inr, Bool, true, false, cond, eqb, List, [], ◌∷◌, length, Option, Some, None, refl, sym, ◌∙◌, ap, subst, arith}
-use Rattle.std.specs.Prelude.{◌≢◌, slice_get}
-use Rattle.std.specs.Option.{option_map_or, option_and_then, unwrap_or}
-use Rattle.std.proofs.lemmas.Bool.{true≢false, eqb-true, eq-eqb}
-use Rattle.std.proofs.lemmas.Option.{none-some}
-use Rattle.oc_base.specs.declared.format.Word.{Word}
-use Rattle.oc_base.specs.declared.format.Word.TheVariants.{W32, W64}
-use Rattle.oc_base.specs.Formats.{word_for}
-use Rattle.oc_linking.specs.declared.terms.Kind.TheVariants.{Zero}
-use Rattle.oc_linking.specs.declared.terms.Fallback.{Fallback}
-use Rattle.oc_linking.specs.declared.terms.Fallback.TheVariants as fallback
-use Rattle.oc_linking.specs.declared.terms.Binding.TheVariants.{Weak}
+use Rattle.std.specs.{Prelude.{◌≢◌, slice_get}, Option.{option_map_or, option_and_then, unwrap_or}}
+use Rattle.std.proofs.lemmas.{Bool.{true≢false, eqb-true, eq-eqb}, Option.{none-some}}
+use Rattle.oc_base.specs.{declared.format.Word.{Word}, declared.format.Word.TheVariants.{W32, W64}, Formats.{word_for}}
+use Rattle.oc_linking.specs.{declared.terms.Kind.TheVariants.{Zero}, declared.terms.Fallback.{Fallback}, declared.terms.Binding.TheVariants.{Weak}}
 use Rattle.oc_linking.specs.Numbers.{first_from}
-use Rattle.oc_neutral.specs.declared.section.Section.{Section}
-use Rattle.oc_neutral.specs.declared.symbol.Symbol.{Symbol}
+use Rattle.oc_linking.specs.declared.terms.Fallback.TheVariants as fallback
+use Rattle.oc_neutral.specs.{declared.section.Section.{Section}, declared.symbol.Symbol.{Symbol}, Building.{is_zero, stored_size}, Families.{container_of}}
+use Rattle.oc_neutral.specs.{Family.{IsMach}, Invariants.{IsObject, IsSymbol, IsBinding, HasOffset, HasItsBytes}, KeySymbols.{global_place}}
+use Rattle.oc_neutral.specs.{Mach.Kinds.{mach_kind, segment_of, section_of, is_zerofill_tag}, Normal.{Place}, Objects.{Object}}
 use Rattle.oc_neutral.specs.Bindings as weak
-use Rattle.oc_neutral.specs.Building.{is_zero, stored_size}
-use Rattle.oc_neutral.specs.Families.{container_of}
-use Rattle.oc_neutral.specs.Family.{IsMach}
-use Rattle.oc_target.specs.Fitted.{IsFitted}
-use Rattle.oc_neutral.specs.Invariants.{IsObject, IsSymbol, IsBinding, HasOffset, HasItsBytes}
-use Rattle.oc_neutral.specs.KeySymbols.{global_place}
-use Rattle.oc_neutral.specs.Mach.Kinds.{mach_kind, segment_of, section_of, is_zerofill_tag}
-use Rattle.oc_target.specs.MachMeets.{MeetsMach, MachSection}
-use Rattle.oc_shows.specs.Manners.{mach_manner}
-use Rattle.oc_target.specs.Meets.{IsPower}
-use Rattle.oc_neutral.specs.Normal.{Place}
-use Rattle.oc_neutral.specs.Objects.{Object}
-use Rattle.oc_shows.specs.Seen.{place_at, new_position, seen_fallback}
-use Rattle.oc_target.proofs.MeetsMach.{meets_mach}
-use Rattle.oc_target.proofs.MeetsMachKinds.{mach_zero}
-use Rattle.oc_target.proofs.MeetsParts.{zero_kind}
+use Rattle.oc_target.specs.{Fitted.{IsFitted}, MachMeets.{MeetsMach, MachSection}, Meets.{IsPower}}
+use Rattle.oc_shows.specs.{Manners.{mach_manner}, Seen.{place_at, new_position, seen_fallback}}
+use Rattle.oc_target.proofs.{MeetsMach.{meets_mach}, MeetsMachKinds.{mach_zero}, MeetsParts.{zero_kind}}
 use Rattle.oc_neutral.proofs.Positions.{each_at}
 use Rattle.oc_macho.specs.MachHeader.{mach_format}
-use Rattle.oc_macho_file.specs.Addresses.{is_blank}
-use Rattle.oc_macho_file.specs.Symbols.{exponent_of, value_fields_at, value_fields_elsewhere, value_fields_for}
+use Rattle.oc_macho_file.specs.{Addresses.{is_blank}, Symbols.{exponent_of, value_fields_at, value_fields_elsewhere, value_fields_for}}
 use Rattle.oc_shows.proofs.FoundLaws.{place_of_global}
 
 -- an object that is ready for Mach-O, and what it meets

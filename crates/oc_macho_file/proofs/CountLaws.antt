@@ -1,23 +1,13 @@
 -- A canonical file has as many symbols as are counted.
 use Rattle.std.proofs.Common.{◌≡◌, ℕ, ◌+◌, ◌^◌, ◌<◌, Bool, true, false, ◌&&◌, cond, List, [], ◌∷◌, ◌++◌, length, refl, sym, ◌∙◌, ap, subst, arith, length-append}
 use Rattle.std.specs.List.{count_by, enumerate_from, filter}
-use Rattle.std.proofs.lemmas.Bool.{true≢false}
-use Rattle.std.proofs.lemmas.List.{length-map}
-use Rattle.std.proofs.lemmas.List.Sums.{sum_by-cons, length-filter}
-use Rattle.oc_base.specs.declared.format.Word.{Word}
-use Rattle.oc_base.specs.declared.format.Word.TheVariants.{W32, W64}
-use Rattle.oc_linking.specs.declared.terms.Binding.{Binding}
-use Rattle.oc_linking.specs.declared.terms.Binding.TheVariants.{Local, Global, Undefined, Common, Weak}
+use Rattle.std.proofs.lemmas.{Bool.{true≢false}, List.{length-map}, List.Sums.{sum_by-cons, length-filter}}
+use Rattle.oc_base.specs.{declared.format.Word.{Word}, declared.format.Word.TheVariants.{W32, W64}}
+use Rattle.oc_linking.specs.{declared.terms.Binding.{Binding}, declared.terms.Binding.TheVariants.{Local, Global, Undefined, Common, Weak}, Parts.{is_local}}
 use Rattle.oc_linking.specs.declared.terms.Fallback.TheVariants as fallback
-use Rattle.oc_linking.specs.Parts.{is_local}
-use Rattle.oc_neutral.specs.declared.symbol.Symbol.{Symbol}
-use Rattle.oc_neutral.specs.Bindings.{is_zero, is_written_by}
-use Rattle.oc_neutral.specs.Mach.Family.{mach_writes, mach_needed, mach_symbol_count}
-use Rattle.oc_neutral.specs.Mach.SectionSymbols.{needed_sections}
-use Rattle.oc_neutral.specs.Objects.{Object}
+use Rattle.oc_neutral.specs.{declared.symbol.Symbol.{Symbol}, Bindings.{is_zero, is_written_by}, Mach.Family.{mach_writes, mach_needed, mach_symbol_count}}
+use Rattle.oc_neutral.specs.{Mach.SectionSymbols.{needed_sections}, Objects.{Object}, Dressing.{is_common}, WrittenSymbols.{is_written}}
 use Rattle.oc_shows.specs.SymbolLines.{is_defined, is_undefined, is_weak_with}
-use Rattle.oc_neutral.specs.Dressing.{is_common}
-use Rattle.oc_neutral.specs.WrittenSymbols.{is_written}
 use Rattle.oc_macho.specs.MachHeader.{mach_format}
 use Rattle.oc_macho_file.specs.Lines.{Line, OwnLine, LocalLine, OuterLine, lines_of, lines_where, own_lines, local_lines, inner_lines, defined_lines, undefined_lines}
 use Rattle.oc_macho_file.proofs.CodedLaws.{IsForMach}

@@ -1,44 +1,23 @@
 -- The relocations of an object that is ready for Mach-O: their rows, and that the entries of a canonical file are items, one for each relocation.
 use Rattle.std.proofs.Common.{◌≡◌, ℕ, zero, suc, ◌+◌, ◌<◌, ◌≤◌, Bool, true, false, cond, eqb, List, [], ◌∷◌, ◌++◌, length, map, Option, Some, None, refl, sym, ◌∙◌, ap, subst, inl, inr, arith}
-use Rattle.std.specs.Prelude.{slice_get, nat_eq, flat_map}
-use Rattle.std.specs.List.{AllByRecursion}
-use Rattle.std.specs.Option.{option_map, option_map_or, option_and_then}
-use Rattle.std.proofs.lemmas.Bool.{eqb-true, eq-eqb, cases_lt}
-use Rattle.std.proofs.lemmas.Option.{none-some, same_Some, slice_get_within}
-use Rattle.oc_base.specs.declared.format.Word.{Word}
-use Rattle.oc_base.specs.declared.format.Word.TheVariants.{W32, W64}
-use Rattle.oc_linking.specs.declared.terms.Patch.{Patch}
-use Rattle.oc_linking.specs.Fits.{bytes_of}
-use Rattle.oc_linking.specs.Numbers.{first_upto}
-use Rattle.oc_linking.specs.Shows.{Apart}
-use Rattle.oc_linking.proofs.FirstFaultLaws.{first_upto_none}
-use Rattle.oc_linking.proofs.Upto.{first_upto_from}
-use Rattle.oc_chains.specs.Fields.{FollowFrom, end_of}
-use Rattle.oc_chains.specs.declared.field.Field.{Field}
-use Rattle.oc_chains.specs.Lists.{list_of}
-use Rattle.oc_neutral.specs.declared.section.Section.{Section}
-use Rattle.oc_neutral.specs.declared.reloc.Reloc.{Reloc}
-use Rattle.oc_neutral.specs.declared.reloc.Target.{Target}
-use Rattle.oc_neutral.specs.declared.reloc.Target.TheVariants as target
-use Rattle.oc_neutral.specs.Mach.Kinds.{is_zerofill_tag}
-use Rattle.oc_neutral.specs.Mach.Relocs.{MachRow, length_of, mach_entries, entry_among}
-use Rattle.oc_target.specs.MachMeets.{MachReloc}
-use Rattle.oc_target.specs.Meets.{HoldsAddend, MeetsReloc}
-use Rattle.oc_neutral.specs.Objects.{Object, reloc_at, reloc_among}
+use Rattle.std.specs.{Prelude.{slice_get, nat_eq, flat_map}, List.{AllByRecursion}, Option.{option_map, option_map_or, option_and_then}}
+use Rattle.std.proofs.lemmas.{Bool.{eqb-true, eq-eqb, cases_lt}, Option.{none-some, same_Some, slice_get_within}}
+use Rattle.oc_base.specs.{declared.format.Word.{Word}, declared.format.Word.TheVariants.{W32, W64}}
+use Rattle.oc_linking.specs.{declared.terms.Patch.{Patch}, Fits.{bytes_of}, Numbers.{first_upto}, Shows.{Apart}}
+use Rattle.oc_linking.proofs.{FirstFaultLaws.{first_upto_none}, Upto.{first_upto_from}}
+use Rattle.oc_chains.specs.{Fields.{FollowFrom, end_of}, declared.field.Field.{Field}, Lists.{list_of}}
+use Rattle.oc_neutral.specs.{declared.section.Section.{Section}, declared.reloc.Reloc.{Reloc}, declared.reloc.Target.{Target}, Mach.Kinds.{is_zerofill_tag}}
+use Rattle.oc_neutral.specs.{Mach.Relocs.{MachRow, length_of, mach_entries, entry_among}, Objects.{Object, reloc_at, reloc_among}}
 use Rattle.oc_neutral.specs.Rows.{Row, TakesPlace, TakesSection, same_taken}
-use Rattle.oc_neutral.proofs.Mapped.{from_mapped}
-use Rattle.oc_neutral.proofs.Positions.{there_at}
-use Rattle.oc_neutral.proofs.Standing.{ends_by, wide_in}
+use Rattle.oc_neutral.specs.declared.reloc.Target.TheVariants as target
+use Rattle.oc_target.specs.{MachMeets.{MachReloc}, Meets.{HoldsAddend, MeetsReloc}}
+use Rattle.oc_neutral.proofs.{Mapped.{from_mapped}, Positions.{there_at}, Standing.{ends_by, wide_in}}
 use Rattle.oc_shelf.specs.Writing.Parts.{Laid}
 use Rattle.oc_shelf.proofs.WritingLaws.MemberLemmas.{of_map, member_map, all_members}
-use Rattle.oc_macho.specs.declared.relocation_info.Reference.{Reference}
+use Rattle.oc_macho.specs.{declared.relocation_info.Reference.{Reference}, declared.relocation_info.RelocationInfo.{RelocationInfo}}
+use Rattle.oc_macho.specs.{declared.entries.Item.{Item}, MachHeader.{mach_format}, Entries.{can_refer, row_for, is_first, item_at}}
 use Rattle.oc_macho.specs.declared.relocation_info.Reference.TheVariants as reference
-use Rattle.oc_macho.specs.declared.relocation_info.RelocationInfo.{RelocationInfo}
-use Rattle.oc_macho.specs.declared.entries.Item.{Item}
-use Rattle.oc_macho.specs.MachHeader.{mach_format}
-use Rattle.oc_macho.specs.Entries.{can_refer, row_for, is_first, item_at}
-use Rattle.oc_macho_file.specs.Addresses.{address_of}
-use Rattle.oc_macho_file.specs.Lines.{Line, own_number}
+use Rattle.oc_macho_file.specs.{Addresses.{address_of}, Lines.{Line, own_number}}
 use Rattle.oc_macho_file.specs.Bodies.{WrittenReloc, taken_section, end_section_address, written_reloc_at, reference_to, plain_entry, scattered_entry, pair_entries, standing_entries, entries_at, entries_of, field_shift, field_patch, field_patches}
 use Rattle.oc_macho_file.proofs.CodedLaws.{IsForMach, word_back, stored_all}
 use Rattle.oc_macho_file.proofs.ItemLaws.{Written, Alone, Pair, written_entries, item_of, IsTold, begin_of, item_there, item_only, item_inside}

@@ -1,34 +1,20 @@
 -- The fields of a canonical file: what numbers stand in them, and which entries they are read by.
 use Rattle.std.proofs.Common.{◌≡◌, ℕ, ◌%◌, ◌≤◌, cond, ℤ, List, length, replicate, Option, Some, None, Ok, refl, sym, ◌∙◌, ap, arith}
-use Rattle.std.specs.Prelude.{◌+ℤ◌, slice_get}
-use Rattle.std.specs.Option.{option_map, option_map_or, option_and_then}
-use Rattle.oc_base.specs.declared.format.Word.{Word}
-use Rattle.oc_base.specs.declared.format.Word.TheVariants.{W32, W64}
-use Rattle.oc_base.specs.Numbers.{number_at}
+use Rattle.std.specs.{Prelude.{◌+ℤ◌, slice_get}, Option.{option_map, option_map_or, option_and_then}}
+use Rattle.oc_base.specs.{declared.format.Word.{Word}, declared.format.Word.TheVariants.{W32, W64}, Numbers.{number_at}}
 use Rattle.oc_linking.specs.Fits.{bytes_of, span}
 use Rattle.oc_linking.proofs.Storing.{field_holds}
-use Rattle.oc_algebra.specs.Residues.{reduced_number}
-use Rattle.oc_algebra.specs.Fields.{extended, to_field_of, from_field_of}
-use Rattle.oc_neutral.specs.declared.section.Section.{Section}
-use Rattle.oc_neutral.specs.declared.reloc.Reloc.{Reloc}
-use Rattle.oc_neutral.specs.Mach.Relocs.{MachRow}
+use Rattle.oc_algebra.specs.{Residues.{reduced_number}, Fields.{extended, to_field_of, from_field_of}}
+use Rattle.oc_neutral.specs.{declared.section.Section.{Section}, declared.reloc.Reloc.{Reloc}, Mach.Relocs.{MachRow}, Objects.{Object, reloc_at}}
 use Rattle.oc_target.specs.Meets.{HoldsAddend}
-use Rattle.oc_neutral.specs.Objects.{Object, reloc_at}
 use Rattle.oc_shows.specs.RowFields.{number_in}
 use Rattle.oc_shelf.specs.Writing.Parts.{Laid}
 use Rattle.oc_macho.specs.declared.relocation_info.Reference.TheVariants as reference
-use Rattle.oc_macho.specs.declared.entries.Item.{Item}
-use Rattle.oc_macho.specs.MachHeader.{mach_format}
-use Rattle.oc_macho.specs.Tables.{SectionTable, Tables}
-use Rattle.oc_macho.specs.Entries.{row_for, target_entry, taken_entry}
-use Rattle.oc_macho.specs.Aims.{Aim, aim_in, target_in}
-use Rattle.oc_macho.specs.Fields.{FieldParts, field_parts_by, field_parts_in, item_for, field_of, fields_in}
-use Rattle.oc_macho_file.specs.Addresses.{address_of}
-use Rattle.oc_macho_file.specs.Lines.{Line, numbered_lines, own_number}
+use Rattle.oc_macho.specs.{declared.entries.Item.{Item}, MachHeader.{mach_format}, Tables.{SectionTable, Tables}, Entries.{row_for, target_entry, taken_entry}}
+use Rattle.oc_macho.specs.{Aims.{Aim, aim_in, target_in}, Fields.{FieldParts, field_parts_by, field_parts_in, item_for, field_of, fields_in}}
+use Rattle.oc_macho_file.specs.{Addresses.{address_of}, Lines.{Line, numbered_lines, own_number}}
 use Rattle.oc_macho_file.specs.Bodies.{WrittenReloc, taken_section, end_section_address, field_shift, number_or, field_number, field_patch, field_patches, raw_of, reference_to, plain_entry, scattered_entry}
-use Rattle.oc_macho_file.proofs.TableLaws.{made_table, made_sections, made_tables}
-use Rattle.oc_macho_file.proofs.CodedLaws.{IsForMach, word_back}
-use Rattle.oc_macho_file.proofs.ItemLaws.{item_of}
+use Rattle.oc_macho_file.proofs.{TableLaws.{made_table, made_sections, made_tables}, CodedLaws.{IsForMach, word_back}, ItemLaws.{item_of}}
 use Rattle.oc_macho_file.proofs.EntryLaws.{written_pair, written_by, written_standing, addend_held, meets, row, entry, row_is, standing, standing_is, first_row, inside, is_stored, apart_patches, item_found, none_found}
 use Rattle.oc_macho_file.proofs.SectionLaws.{made_contents, table_at, length-tables}
 use Rattle.std.proofs.lemmas.Option.{slice_get_past}

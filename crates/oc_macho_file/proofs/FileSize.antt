@@ -1,41 +1,24 @@
 -- A canonical file has fewer than 2^32 bytes.
 use Rattle.std.proofs.Common.{◌≡◌, ℕ, zero, suc, ◌+◌, ◌-◌, ◌*◌, ◌^◌, ◌<◌, ◌≤◌, Bool, true, false, not, ◌&&◌, cond, eqb, List, [], ◌∷◌, ◌++◌, length, map, get_or, replicate, Some, refl, ◌∙◌, ap, arith, length-append}
-use Rattle.std.specs.Prelude.{slice_get, flat_map, codes, decimal}
-use Rattle.std.proofs.lemmas.Fmt.{length-decimal-le}
-use Rattle.std.specs.List.{sum_by, enumerate_from, filter, AllByRecursion}
-use Rattle.std.proofs.lemmas.List.{length-map}
-use Rattle.std.proofs.lemmas.List.FromFn.{length-enumerate_from}
-use Rattle.std.proofs.lemmas.List.Sums.{sum_by-cons, sum_by-append}
-use Rattle.oc_base.specs.declared.format.Word.{Word}
-use Rattle.oc_base.specs.declared.format.Word.TheVariants.{W32, W64}
+use Rattle.std.specs.{Prelude.{slice_get, flat_map, codes, decimal}, List.{sum_by, enumerate_from, filter, AllByRecursion}}
+use Rattle.std.proofs.lemmas.{Fmt.{length-decimal-le}, List.{length-map}, List.FromFn.{length-enumerate_from}, List.Sums.{sum_by-cons, sum_by-append}}
+use Rattle.oc_base.specs.{declared.format.Word.{Word}, declared.format.Word.TheVariants.{W32, W64}}
 use Rattle.oc_chains.specs.declared.field.Field as chains
 use Rattle.oc_chains.specs.Lists.{list_of}
 use Rattle.oc_linking.specs.Parts.{is_local}
-use Rattle.oc_neutral.specs.declared.reloc.Reloc.{Reloc}
-use Rattle.oc_neutral.specs.declared.section.Section.{Section}
-use Rattle.oc_neutral.specs.declared.symbol.Symbol.{Symbol}
-use Rattle.oc_neutral.specs.Bindings.{is_zero}
-use Rattle.oc_neutral.specs.Building.{stored_size, stored_sum}
-use Rattle.oc_neutral.specs.Dressing.{is_common}
-use Rattle.oc_neutral.specs.Invariants.{HasItsBytes}
-use Rattle.oc_neutral.specs.Mach.SectionSymbols.{needed_sections}
-use Rattle.oc_neutral.specs.Objects.{Object}
+use Rattle.oc_neutral.specs.{declared.reloc.Reloc.{Reloc}, declared.section.Section.{Section}, declared.symbol.Symbol.{Symbol}, Bindings.{is_zero}}
+use Rattle.oc_neutral.specs.{Building.{stored_size, stored_sum}, Dressing.{is_common}, Invariants.{HasItsBytes}, Mach.SectionSymbols.{needed_sections}}
+use Rattle.oc_neutral.specs.{Objects.{Object}, WrittenSymbols.{is_written}}
 use Rattle.oc_shows.specs.SymbolLines.{is_defined, is_undefined, is_weak_with}
-use Rattle.oc_neutral.specs.WrittenSymbols.{is_written}
 use Rattle.oc_shelf.specs.Writing.Parts.{aligned}
-use Rattle.oc_macho.specs.MachHeader.{address_size}
-use Rattle.oc_macho.specs.Nlist.{nlist_size}
+use Rattle.oc_macho.specs.{MachHeader.{address_size}, Nlist.{nlist_size}}
 use Rattle.oc_macho_file.specs.Addresses.{Numbered, is_blank, stored_sections}
 use Rattle.oc_macho_file.specs.Lines.{Line, OwnLine, LocalLine, OuterLine, lines_of, line_name, lines_where, own_lines, local_lines, inner_lines, defined_lines, undefined_lines, numbered_lines}
 use Rattle.oc_macho_file.specs.Layout.{Part, FileHead, SegmentHead, SectionHeads, SymtabHead, DysymtabHead, Raw, Relocs, SymbolTable, StringTable, raw_part, relocs_part, head_parts, table_parts, parts_of, contents_begin, relocs_of, line_names, strings_of, string_table, part_size, part_begin, entries_align}
 use Rattle.oc_macho_file.specs.Canonical.{mach_file}
-use Rattle.oc_macho_file.proofs.PartLaws.{IsPartOf, part_is_there, length-mach_file}
-use Rattle.oc_macho_file.proofs.CodedLaws.{IsForMach, meets_section, align_some, power_low}
-use Rattle.oc_macho_file.proofs.NameLaws.{needed_low}
-use Rattle.oc_macho_file.proofs.ItemLaws.{Written, Alone, Pair, written_entries}
-use Rattle.oc_macho_file.proofs.EntryLaws.{written_field, written_all, entries_are}
-use Rattle.oc_macho_file.proofs.AddressLaws.{laid_low, gap_low}
-use Rattle.oc_macho_file.proofs.CountLaws.{few_lines}
+use Rattle.oc_macho_file.proofs.{PartLaws.{IsPartOf, part_is_there, length-mach_file}, CodedLaws.{IsForMach, meets_section, align_some, power_low}}
+use Rattle.oc_macho_file.proofs.{NameLaws.{needed_low}, ItemLaws.{Written, Alone, Pair, written_entries}, EntryLaws.{written_field, written_all, entries_are}}
+use Rattle.oc_macho_file.proofs.{AddressLaws.{laid_low, gap_low}, CountLaws.{few_lines}}
 use Rattle.oc_shelf.proofs.WritingLaws.SizeLemmas.{ended_size, table_size, sum_filter, sum_more, sum_enumerated}
 use Rattle.oc_neutral.proofs.LeftObject.{sum_map}
 

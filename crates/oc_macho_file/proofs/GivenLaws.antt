@@ -1,62 +1,34 @@
 -- The fields of a canonical file are the relocations of the object that is seen: alone and in pairs, of both words.
 use Rattle.std.proofs.Common.{◌≡◌, ℕ, ◌+◌, ◌%◌, Bool, true, false, ◌&&◌, ◌||◌, cond, ℤ, Option, Some, None, refl, sym, ◌∙◌, ap, subst, inl, inr, arith, neg_ℤ}
-use Rattle.std.specs.Prelude.{◌⊎◌, ◌+ℤ◌, ◌-ℤ◌, slice_get, pos, is_some}
-use Rattle.std.specs.Option.{option_map_or, unwrap_or}
-use Rattle.std.proofs.lemmas.Bool.{true≢false}
-use Rattle.std.proofs.lemmas.Int.{ints}
-use Rattle.oc_base.specs.declared.format.Word.{Word}
-use Rattle.oc_base.specs.declared.format.Word.TheVariants.{W32, W64}
-use Rattle.oc_base.specs.Formats.{word_for}
-use Rattle.oc_linking.specs.declared.terms.Base.{Base}
+use Rattle.std.specs.{Prelude.{◌⊎◌, ◌+ℤ◌, ◌-ℤ◌, slice_get, pos, is_some}, Option.{option_map_or, unwrap_or}}
+use Rattle.std.proofs.lemmas.{Bool.{true≢false}, Int.{ints}}
+use Rattle.oc_base.specs.{declared.format.Word.{Word}, declared.format.Word.TheVariants.{W32, W64}, Formats.{word_for}}
+use Rattle.oc_linking.specs.{declared.terms.Base.{Base}, declared.terms.Hint.TheVariants.{Plain}, declared.terms.Less.{Less}, Keeping.{all}}
+use Rattle.oc_linking.specs.{Numbers.{modulus, minus, reduced}, Placing.{Placement}, Rules.{Field}, Values.{Valuation}}
 use Rattle.oc_linking.specs.declared.terms.Base.TheVariants as base
-use Rattle.oc_linking.specs.declared.terms.Hint.TheVariants.{Plain}
-use Rattle.oc_linking.specs.declared.terms.Less.{Less}
 use Rattle.oc_linking.specs.declared.terms.Less.TheVariants as less
-use Rattle.oc_linking.specs.Keeping.{all}
-use Rattle.oc_linking.specs.Numbers.{modulus, minus, reduced}
-use Rattle.oc_linking.specs.Placing.{Placement}
-use Rattle.oc_linking.specs.Rules.{Field}
-use Rattle.oc_linking.specs.Values.{Valuation}
 use Rattle.oc_algebra.specs.Residues.{residue_of, reduced_number}
 use Rattle.oc_algebra.proofs.Laws.{residue_less, residue_reduced}
-use Rattle.oc_neutral.specs.declared.section.Section.{Section}
-use Rattle.oc_neutral.specs.declared.reloc.Reloc.{Reloc}
-use Rattle.oc_neutral.specs.declared.reloc.Target.{Target}
-use Rattle.oc_neutral.specs.declared.reloc.Target.TheVariants as target
-use Rattle.oc_shows.specs.Built.{IsField}
-use Rattle.oc_neutral.specs.Dialects.{Dialect, target_by, is_difference, less_in}
-use Rattle.oc_shows.specs.Manners.{mach_manner, mach_hint, mach_by_section}
-use Rattle.oc_neutral.specs.Mach.Relocs.{MachRow}
-use Rattle.oc_neutral.specs.Faces.{shown_symbols}
-use Rattle.oc_target.specs.Meets.{IsTakenBy, has_calls}
-use Rattle.oc_shows.specs.RowFields.{number_in}
-use Rattle.oc_neutral.specs.Normal.{Place, cancels, at_section, moved_addend}
-use Rattle.oc_neutral.specs.Objects.{Object, reloc_at}
-use Rattle.oc_neutral.specs.Rows as rows
+use Rattle.oc_neutral.specs.{declared.section.Section.{Section}, declared.reloc.Reloc.{Reloc}, declared.reloc.Target.{Target}}
+use Rattle.oc_neutral.specs.{Dialects.{Dialect, target_by, is_difference, less_in}, Mach.Relocs.{MachRow}, Faces.{shown_symbols}}
+use Rattle.oc_neutral.specs.{Normal.{Place, cancels, at_section, moved_addend}, Objects.{Object, reloc_at}}
 use Rattle.oc_neutral.specs.Rows.{Taken, TakesZero, TakesPlace, TakesGotBase, TakesImageBase, TakesHome, TakesSection, same_taken, taken_of, shift_of}
+use Rattle.oc_neutral.specs.{Shifts.{entry_target_shift}, Worth.{base_of, target_worth, residue_at}}
+use Rattle.oc_neutral.specs.declared.reloc.Target.TheVariants as target
+use Rattle.oc_shows.specs.{Built.{IsField}, Manners.{mach_manner, mach_hint, mach_by_section}, RowFields.{number_in}}
 use Rattle.oc_shows.specs.Seen.{target_place, section_place, seen_target, seen_reloc}
-use Rattle.oc_neutral.specs.Shifts.{entry_target_shift}
+use Rattle.oc_target.specs.Meets.{IsTakenBy, has_calls}
+use Rattle.oc_neutral.specs.Rows as rows
 use Rattle.oc_neutral.specs.Worth as worth
-use Rattle.oc_neutral.specs.Worth.{base_of, target_worth, residue_at}
-use Rattle.oc_macho.specs.MachHeader.{mach_format}
-use Rattle.oc_macho.specs.Tables.{SectionTable, Tables}
+use Rattle.oc_macho.specs.{MachHeader.{mach_format}, Tables.{SectionTable, Tables}, Entries.{taken_entry}, Aims.{Aim, section_aim, aim_in}}
+use Rattle.oc_macho.specs.{Fields.{FieldParts, field_parts_by, added_by, number_of, field_with, field_of, fields_in}, Rules.{mach_dialect}}
 use Rattle.oc_macho.specs.Sections as read
-use Rattle.oc_macho.specs.Entries.{taken_entry}
-use Rattle.oc_macho.specs.Aims.{Aim, section_aim, aim_in}
-use Rattle.oc_macho.specs.Fields.{FieldParts, field_parts_by, added_by, number_of, field_with, field_of, fields_in}
-use Rattle.oc_macho.specs.Rules.{mach_dialect}
-use Rattle.oc_macho_file.specs.Addresses.{address_of}
-use Rattle.oc_macho_file.specs.Lines.{numbered_lines}
-use Rattle.oc_macho_file.specs.Bodies.{WrittenReloc, entry_target_of, alone_shift, pair_shift, field_shift, reference_to}
-use Rattle.oc_macho_file.specs.Canonical.{mach_file}
-use Rattle.oc_macho_file.proofs.TableLaws.{made_table, made_tables}
-use Rattle.oc_macho_file.proofs.CodedLaws.{IsForMach, word_is}
+use Rattle.oc_macho_file.specs.{Addresses.{address_of}, Lines.{numbered_lines}}
+use Rattle.oc_macho_file.specs.{Bodies.{WrittenReloc, entry_target_of, alone_shift, pair_shift, field_shift, reference_to}, Canonical.{mach_file}}
+use Rattle.oc_macho_file.proofs.{TableLaws.{made_table, made_tables}, CodedLaws.{IsForMach, word_is}}
 use Rattle.oc_macho_file.proofs.RowLaws.{IsPlain, PlainZero, PlainPlace, PlainSection, moves_own, counted_behind}
-use Rattle.oc_macho_file.proofs.EntryLaws.{mach_reloc, meets, row, entry, row_is, known, standing}
-use Rattle.oc_macho_file.proofs.SectionLaws.{address_made, contents_made}
-use Rattle.oc_macho_file.proofs.SeenLaws.{shown, again}
-use Rattle.oc_macho_file.proofs.TargetLaws.{IsAimedAt}
-use Rattle.oc_macho_file.proofs.FieldLaws.{own_item, field_there, number, held, found_alone, taken_alone}
+use Rattle.oc_macho_file.proofs.{EntryLaws.{mach_reloc, meets, row, entry, row_is, known, standing}, SectionLaws.{address_made, contents_made}}
+use Rattle.oc_macho_file.proofs.{SeenLaws.{shown, again}, TargetLaws.{IsAimedAt}, FieldLaws.{own_item, field_there, number, held, found_alone, taken_alone}}
 use Rattle.oc_macho_file.proofs.AgainLaws.{placed_field, placed_dialect}
 use Rattle.oc_neutral.proofs.NormalLemmas.{cancels-place}
 

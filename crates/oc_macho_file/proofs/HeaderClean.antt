@@ -1,29 +1,19 @@
 -- The header and the load commands of a canonical file are well formed.
 use Rattle.std.proofs.Common.{◌≡◌, ℕ, ◌+◌, ◌*◌, ◌%◌, ◌≤◌, true, false, not, ◌||◌, cond, List, [], length, Some, refl, sym, ◌∙◌, ap, subst, arith}
-use Rattle.std.specs.Prelude.{nat_lt, nat_eq, flat_map}
-use Rattle.std.specs.Option.{option_map_or}
+use Rattle.std.specs.{Prelude.{nat_lt, nat_eq, flat_map}, Option.{option_map_or}}
 use Rattle.std.proofs.lemmas.Bool.Decides.{nat_tests}
-use Rattle.oc_base.specs.declared.format.Word.{Word}
-use Rattle.oc_base.specs.declared.format.Word.TheVariants.{W32, W64}
+use Rattle.oc_base.specs.{declared.format.Word.{Word}, declared.format.Word.TheVariants.{W32, W64}}
 use Rattle.oc_base.proofs.NumberLaws.{length-table}
 use Rattle.oc_neutral.specs.Objects.{Object}
 use Rattle.oc_shelf.specs.Writing.Packed.{packed}
-use Rattle.oc_shelf.proofs.ReadingLaws.StageLemmas.{Unbroken, IsUnbroken, unbroken_append}
-use Rattle.oc_shelf.proofs.WritingLaws.StandingLemmas.{stands_inside}
-use Rattle.oc_macho.specs.declared.constants.TheConstants.{LC_SYMTAB, LC_DYSYMTAB}
-use Rattle.oc_macho.specs.declared.load_command.LoadCommand.{LoadCommand}
-use Rattle.oc_macho.specs.declared.mach_header.MachHeader.{MachHeader}
-use Rattle.oc_macho.specs.MachHeader.{mach_header_size, mach_header_of, cpu_type}
-use Rattle.oc_macho.specs.LoadCommand.{load_command_at}
-use Rattle.oc_macho.specs.SegmentCommand.{segment_number, segment_command_size}
-use Rattle.oc_macho.specs.SectionHeader.{section_header_size}
-use Rattle.oc_macho.specs.Nlist.{nlist_size}
+use Rattle.oc_shelf.proofs.{ReadingLaws.StageLemmas.{Unbroken, IsUnbroken, unbroken_append}, WritingLaws.StandingLemmas.{stands_inside}}
+use Rattle.oc_macho.specs.{declared.constants.TheConstants.{LC_SYMTAB, LC_DYSYMTAB}, declared.load_command.LoadCommand.{LoadCommand}}
+use Rattle.oc_macho.specs.{declared.mach_header.MachHeader.{MachHeader}, MachHeader.{mach_header_size, mach_header_of, cpu_type}, LoadCommand.{load_command_at}}
+use Rattle.oc_macho.specs.{SegmentCommand.{segment_number, segment_command_size}, SectionHeader.{section_header_size}, Nlist.{nlist_size}}
 use Rattle.oc_macho.specs.Tables.{command_count, command_place, symtab_of}
 use Rattle.oc_macho.specs.HeaderFaults.{commands_end, is_misplaced, whole_segment, least_size, is_short, is_bad, any_bad, count_upto, has_bad_commands, is_no_object, symtab_conditions, command_conditions, header_conditions, header_stage}
 use Rattle.oc_macho.specs.Structures.{mach_header_bytes, nlist_bytes}
-use Rattle.oc_macho_file.specs.Lines.{lines_of}
-use Rattle.oc_macho_file.specs.Layout.{segment_length, string_table, part_where, is_symbol_table, is_string_table}
-use Rattle.oc_macho_file.specs.Symbols.{line_entry}
+use Rattle.oc_macho_file.specs.{Lines.{lines_of}, Layout.{segment_length, string_table, part_where, is_symbol_table, is_string_table}, Symbols.{line_entry}}
 use Rattle.oc_macho_file.specs.Canonical.{file_header, symtab_command, dysymtab_numbers, mach_file}
 use Rattle.oc_macho_file.proofs.StructureLaws.{length-mach_header_bytes, length-nlist_bytes}
 use Rattle.oc_macho_file.proofs.PartLaws.{symtab_at, dysymtab_size, stands_file_header, stands_dysymtab, stands_symbols, stands_strings}

@@ -1,29 +1,19 @@
 -- The numbers of headers and load commands fit their widths, in a file of fewer than 2^32 bytes.
 use Rattle.std.proofs.Common.{◌≡◌, ℕ, ◌+◌, ◌*◌, ◌^◌, ◌<◌, ◌≤◌, Bool, true, false, cond, eqb, List, [], ◌∷◌, ◌++◌, length, replicate, Some, None, refl, ap, arith, length-append, suc, ◌-◌}
-use Rattle.std.specs.Prelude.{slice_get, flat_map}
-use Rattle.std.specs.List.{find}
-use Rattle.std.specs.Option.{unwrap_or, option_map_or}
-use Rattle.oc_base.specs.Strings.{is_given, table_text, table_place, place_from, tops_of}
-use Rattle.oc_base.specs.declared.format.Word.{Word}
+use Rattle.std.specs.{Prelude.{slice_get, flat_map}, List.{find}, Option.{unwrap_or, option_map_or}}
+use Rattle.oc_base.specs.{Strings.{is_given, table_text, table_place, place_from, tops_of}, declared.format.Word.{Word}}
 use Rattle.oc_base.specs.declared.format.Word.TheVariants.{W32, W64}
 use Rattle.oc_base.proofs.NumberLaws.{length-table}
-use Rattle.oc_neutral.specs.declared.section.Section.{Section}
-use Rattle.oc_neutral.specs.Objects.{Object}
+use Rattle.oc_neutral.specs.{declared.section.Section.{Section}, Objects.{Object}}
 use Rattle.oc_shelf.specs.Writing.Parts.{Laid, laid_end, aligned}
-use Rattle.oc_shelf.proofs.WritingLaws.PackedLemmas.{Fit}
-use Rattle.oc_shelf.proofs.WritingLaws.StandingLemmas.{stands_inside}
-use Rattle.oc_shelf.proofs.WritingLaws.StringLemmas.{name_in_table}
-use Rattle.oc_macho.specs.MachHeader.{address_size}
-use Rattle.oc_macho.specs.Structures.{mach_header_numbers, section_numbers, symtab_numbers, relocation_bytes}
+use Rattle.oc_shelf.proofs.{WritingLaws.PackedLemmas.{Fit}, WritingLaws.StandingLemmas.{stands_inside}, WritingLaws.StringLemmas.{name_in_table}}
+use Rattle.oc_macho.specs.{MachHeader.{address_size}, Structures.{mach_header_numbers, section_numbers, symtab_numbers, relocation_bytes}}
 use Rattle.oc_macho_file.specs.Addresses.{Numbered, stored_sections, blank_sections, section_begin, size_of, address_of, memory_end, stored_end}
 use Rattle.oc_macho_file.specs.Lines.{lines_of}
 use Rattle.oc_macho_file.specs.Layout.{Part, parts_of, part_begin, part_size, laid_parts, part_where, is_raw, is_relocs, is_symbol_table, is_string_table, relocs_of, line_names, offset_in, strings_of, string_table}
-use Rattle.oc_macho_file.specs.Symbols.{exponent_of}
-use Rattle.oc_macho_file.specs.Canonical.{file_header, segment_numbers, section_header, pointer_to, symtab_command, mach_file}
-use Rattle.oc_macho_file.proofs.StructureLaws.{length-relocation_bytes}
-use Rattle.oc_macho_file.proofs.PartLaws.{rises, length-mach_file, stands_relocs, stands_strings}
-use Rattle.oc_macho_file.proofs.CodedLaws.{IsForMach, meets_section, size_low, exponent_low}
-use Rattle.oc_macho_file.proofs.AddressLaws.{laid_inside, memory_low, address_low}
+use Rattle.oc_macho_file.specs.{Symbols.{exponent_of}, Canonical.{file_header, segment_numbers, section_header, pointer_to, symtab_command, mach_file}}
+use Rattle.oc_macho_file.proofs.{StructureLaws.{length-relocation_bytes}, PartLaws.{rises, length-mach_file, stands_relocs, stands_strings}}
+use Rattle.oc_macho_file.proofs.{CodedLaws.{IsForMach, meets_section, size_low, exponent_low}, AddressLaws.{laid_inside, memory_low, address_low}}
 
 -- where the first is that passes a test, no later than all begin
 pub where_low : {X : Type 0} (test : X → Bool) (ls : List (Laid X)) (end : ℕ) → ((k : ℕ) (l : Laid X) → slice_get ls k ≡ Some l → l.at ≤ end)

@@ -1,13 +1,9 @@
 -- Entries that are written as items are read as items.
 use Rattle.std.proofs.Common.{◌≡◌, ℕ, zero, suc, ◌+◌, ◌-◌, ◌≤◌, inl, inr, Bool, true, false, not, ◌&&◌, cond, List, [], ◌∷◌, length, take, Option, Some, None, refl, sym, ◌∙◌, ap, arith}
-use Rattle.std.specs.Prelude.{slice_get, flat_map}
-use Rattle.std.specs.List.{AllByRecursion}
-use Rattle.std.specs.Option.{option_map, option_map_or}
-use Rattle.std.proofs.lemmas.Bool.{cases_lt}
-use Rattle.std.proofs.lemmas.Option.{none-some, same_Some}
+use Rattle.std.specs.{Prelude.{slice_get, flat_map}, List.{AllByRecursion}, Option.{option_map, option_map_or}}
+use Rattle.std.proofs.lemmas.{Bool.{cases_lt}, Option.{none-some, same_Some}}
 use Rattle.oc_base.specs.declared.format.Word.{Word}
-use Rattle.oc_macho.specs.declared.relocation_info.RelocationInfo.{RelocationInfo}
-use Rattle.oc_macho.specs.declared.entries.Item.{Item}
+use Rattle.oc_macho.specs.{declared.relocation_info.RelocationInfo.{RelocationInfo}, declared.entries.Item.{Item}}
 use Rattle.oc_macho.specs.Entries.{is_first, is_first_at, begins, item_with, item_at}
 
 -- the entries of one item: one, or a pair

@@ -1,23 +1,14 @@
 -- The lines of an object: what they are, where they are found, and that they are those by which symbols are seen.
 use Rattle.std.proofs.Common.{◌≡◌, ℕ, ◌+◌, Bool, true, false, ◌&&◌, List, [], ◌∷◌, ◌++◌, length, map, Some, refl, sym, ◌∙◌, ap, subst, inl, inr, arith, append_assoc}
-use Rattle.std.specs.Prelude.{slice_get}
-use Rattle.std.specs.List.{enumerate_from, filter}
-use Rattle.std.proofs.lemmas.Bool.{true≢false, eqb-true, eq-eqb, and_parts}
-use Rattle.std.proofs.lemmas.Option.{none-some, same_Some}
-use Rattle.oc_base.specs.declared.format.Word.{Word}
-use Rattle.oc_base.specs.declared.format.Word.TheVariants.{W32, W64}
-use Rattle.oc_linking.specs.declared.terms.Binding.{Binding}
-use Rattle.oc_linking.specs.declared.terms.Binding.TheVariants.{Local, Global, Undefined, Common, Weak}
+use Rattle.std.specs.{Prelude.{slice_get}, List.{enumerate_from, filter}}
+use Rattle.std.proofs.lemmas.{Bool.{true≢false, eqb-true, eq-eqb, and_parts}, Option.{none-some, same_Some}}
+use Rattle.oc_base.specs.{declared.format.Word.{Word}, declared.format.Word.TheVariants.{W32, W64}}
+use Rattle.oc_linking.specs.{declared.terms.Binding.{Binding}, declared.terms.Binding.TheVariants.{Local, Global, Undefined, Common, Weak}, Parts.{is_local}}
 use Rattle.oc_linking.specs.declared.terms.Fallback.TheVariants as fallback
-use Rattle.oc_linking.specs.Parts.{is_local}
-use Rattle.oc_neutral.specs.declared.symbol.Symbol.{Symbol}
-use Rattle.oc_neutral.specs.Bindings.{is_zero}
-use Rattle.oc_neutral.specs.Dressing.{is_common}
-use Rattle.oc_neutral.specs.Mach.SectionSymbols.{needed_sections}
-use Rattle.oc_neutral.specs.Objects.{Object}
+use Rattle.oc_neutral.specs.{declared.symbol.Symbol.{Symbol}, Bindings.{is_zero}, Dressing.{is_common}, Mach.SectionSymbols.{needed_sections}, Objects.{Object}}
+use Rattle.oc_neutral.specs.WrittenSymbols.{is_written}
 use Rattle.oc_shows.specs.SymbolLines.{silent, one, is_defined, is_undefined, is_weak_with, mach_lines}
 use Rattle.oc_shows.specs.SymbolLines as table
-use Rattle.oc_neutral.specs.WrittenSymbols.{is_written}
 use Rattle.oc_shows.proofs.SeenFamilies.{mach_table}
 use Rattle.oc_shelf.proofs.WritingLaws.GatheredLemmas.{found_ones}
 use Rattle.oc_shelf.proofs.WritingLaws.MemberLemmas.{member_first, member_second, member_enumerated, member_map, map-map, map-alike, of_append, of_map, of_enumerated, of_filter, member_filter}

@@ -1,32 +1,18 @@
 -- The names of the sections and of the symbols of a canonical file are read back.
 use Rattle.std.proofs.Common.{◌≡◌, ℕ, zero, suc, ◌+◌, ◌-◌, ◌<◌, ◌≤◌, false, ◌||◌, eqb, List, [], ◌∷◌, ◌++◌, length, take, replicate, Some, refl, sym, ◌∙◌, ap, arith}
-use Rattle.std.specs.Prelude.{slice_get, nat_eq}
-use Rattle.std.specs.List.{position_or_len, range_with_len}
-use Rattle.std.proofs.lemmas.Bool.{true≢false, eq-eqb, ne_eqb, or_parts}
-use Rattle.std.proofs.lemmas.List.Folds.{list_any-append}
-use Rattle.std.proofs.lemmas.Option.{none-some, same_Some}
-use Rattle.oc_base.specs.declared.format.Word.{Word}
-use Rattle.oc_base.specs.Strings.{table_text}
-use Rattle.oc_neutral.specs.declared.section.Section.{Section}
-use Rattle.oc_neutral.specs.KindRules.{has_nul}
-use Rattle.oc_neutral.specs.Mach.Kinds.{mach_name, segment_of, section_of}
-use Rattle.oc_neutral.specs.Mach.SectionSymbols.{needs_section_symbol, needed_sections}
-use Rattle.oc_neutral.specs.Objects.{Object}
+use Rattle.std.specs.{Prelude.{slice_get, nat_eq}, List.{position_or_len, range_with_len}}
+use Rattle.std.proofs.lemmas.{Bool.{true≢false, eq-eqb, ne_eqb, or_parts}, List.Folds.{list_any-append}, Option.{none-some, same_Some}}
+use Rattle.oc_base.specs.{declared.format.Word.{Word}, Strings.{table_text}}
+use Rattle.oc_neutral.specs.{declared.section.Section.{Section}, KindRules.{has_nul}, Mach.Kinds.{mach_name, segment_of, section_of}}
+use Rattle.oc_neutral.specs.{Mach.SectionSymbols.{needs_section_symbol, needed_sections}, Objects.{Object}}
 use Rattle.oc_target.proofs.MeetsNames.{section_symbol_uncut}
-use Rattle.oc_shelf.specs.Reading.Texts.{text_at}
-use Rattle.oc_shelf.specs.Writing.Parts.{Stands}
-use Rattle.oc_shelf.proofs.WritingLaws.MemberLemmas.{member_map, of_filter}
-use Rattle.oc_shelf.proofs.WritingLaws.StandingLemmas.{stands_whole, stands_first, stands_second, stands_in}
+use Rattle.oc_shelf.specs.{Reading.Texts.{text_at}, Writing.Parts.{Stands}}
+use Rattle.oc_shelf.proofs.{WritingLaws.MemberLemmas.{member_map, of_filter}, WritingLaws.StandingLemmas.{stands_whole, stands_first, stands_second, stands_in}}
 use Rattle.oc_shelf.proofs.WritingLaws.StringLemmas.{member_given, name_in_table, text_read}
-use Rattle.oc_macho.specs.Sections.{until_nul}
-use Rattle.oc_macho.specs.Symbols.{name_at}
-use Rattle.oc_macho.specs.Structures.{padded}
-use Rattle.oc_macho_file.specs.Lines.{Line, OwnLine, LocalLine, OuterLine, lines_of, line_name}
-use Rattle.oc_macho_file.specs.Layout.{line_names, offset_in, strings_of, string_table}
+use Rattle.oc_macho.specs.{Sections.{until_nul}, Symbols.{name_at}, Structures.{padded}}
+use Rattle.oc_macho_file.specs.{Lines.{Line, OwnLine, LocalLine, OuterLine, lines_of, line_name}, Layout.{line_names, offset_in, strings_of, string_table}}
 use Rattle.oc_macho_file.specs.Symbols.{line_entry}
-use Rattle.oc_macho_file.proofs.TableLaws.{made_tables}
-use Rattle.oc_macho_file.proofs.CodedLaws.{IsForMach, meets_section}
-use Rattle.oc_macho_file.proofs.LineLaws.{IsLine, line_at}
+use Rattle.oc_macho_file.proofs.{TableLaws.{made_tables}, CodedLaws.{IsForMach, meets_section}, LineLaws.{IsLine, line_at}}
 
 -- ... padded names
 

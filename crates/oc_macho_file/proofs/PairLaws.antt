@@ -1,73 +1,39 @@
 -- The pairs of a canonical file are the differences of the object that is seen.
 use Rattle.std.proofs.Common.{◌≡◌, ℕ, ◌+◌, ◌%◌, ◌<◌, Bool, true, false, ◌&&◌, ◌||◌, cond, eqb, ℤ, List, Option, Some, None, refl, sym, ◌∙◌, ap, subst, inr, arith, neg_ℤ}
-use Rattle.std.specs.Prelude.{◌+ℤ◌, ◌-ℤ◌, slice_get, pos, is_some}
-use Rattle.std.specs.Option.{option_map_or, option_and_then, unwrap_or}
-use Rattle.std.proofs.lemmas.Bool.{true≢false, eq-eqb, ne_eqb}
-use Rattle.std.proofs.lemmas.Int.{ints}
-use Rattle.std.proofs.lemmas.Option.{none-some, same_Some}
-use Rattle.oc_base.specs.declared.format.Word.{Word}
-use Rattle.oc_base.specs.declared.format.Word.TheVariants.{W32, W64}
+use Rattle.std.specs.{Prelude.{◌+ℤ◌, ◌-ℤ◌, slice_get, pos, is_some}, Option.{option_map_or, option_and_then, unwrap_or}}
+use Rattle.std.proofs.lemmas.{Bool.{true≢false, eq-eqb, ne_eqb}, Int.{ints}, Option.{none-some, same_Some}}
+use Rattle.oc_base.specs.{declared.format.Word.{Word}, declared.format.Word.TheVariants.{W32, W64}}
 use Rattle.oc_linking.specs.declared.terms.Base.TheVariants as base
-use Rattle.oc_linking.specs.declared.terms.Binding.{Binding}
-use Rattle.oc_linking.specs.declared.terms.Binding.TheVariants.{Local, Global, Undefined, Common, Weak}
+use Rattle.oc_linking.specs.{declared.terms.Binding.{Binding}, declared.terms.Binding.TheVariants.{Local, Global, Undefined, Common, Weak}}
+use Rattle.oc_linking.specs.{declared.terms.Less.{Less}, Keeping.{all}, Numbers.{modulus, minus, reduced}, Placing.{Placement}, Values.{Valuation}}
 use Rattle.oc_linking.specs.declared.terms.Value.TheVariants as value
-use Rattle.oc_linking.specs.declared.terms.Less.{Less}
 use Rattle.oc_linking.specs.declared.terms.Less.TheVariants as less
-use Rattle.oc_linking.specs.Keeping.{all}
-use Rattle.oc_linking.specs.Numbers.{modulus, minus, reduced}
-use Rattle.oc_linking.specs.Placing.{Placement}
-use Rattle.oc_linking.specs.Values.{Valuation}
 use Rattle.oc_algebra.specs.Residues.{residue_of, reduced_number}
 use Rattle.oc_algebra.proofs.Laws.{residue_add, residue_nat, residue_reduced}
-use Rattle.oc_neutral.specs.declared.section.Section.{Section}
-use Rattle.oc_neutral.specs.declared.symbol.Symbol.{Symbol}
-use Rattle.oc_neutral.specs.declared.reloc.Reloc.{Reloc}
-use Rattle.oc_neutral.specs.declared.reloc.Target.{Target}
-use Rattle.oc_neutral.specs.declared.reloc.Target.TheVariants as target
-use Rattle.oc_neutral.specs.Dialects.{Dialect, target_by, less_in}
-use Rattle.oc_shows.specs.Manners.{mach_manner, mach_hint, is_of_section, mach_by_section}
-use Rattle.oc_neutral.specs.Mach.Relocs.{MachRow}
-use Rattle.oc_neutral.specs.Faces.{shown_symbols}
-use Rattle.oc_neutral.specs.Normal.{Place, cancels, takes_section, at_section, moved_addend}
-use Rattle.oc_neutral.specs.Objects.{Object, reloc_at}
-use Rattle.oc_neutral.specs.Rows as rows
+use Rattle.oc_neutral.specs.{declared.section.Section.{Section}, declared.symbol.Symbol.{Symbol}, declared.reloc.Reloc.{Reloc}, declared.reloc.Target.{Target}}
+use Rattle.oc_neutral.specs.{Dialects.{Dialect, target_by, less_in}, Mach.Relocs.{MachRow}, Faces.{shown_symbols}}
+use Rattle.oc_neutral.specs.{Normal.{Place, cancels, takes_section, at_section, moved_addend}, Objects.{Object, reloc_at}}
 use Rattle.oc_neutral.specs.Rows.{Taken, TakesZero, TakesPlace, TakesGotBase, TakesImageBase, TakesHome, TakesSection, same_taken, taken_of, shift_of}
-use Rattle.oc_shows.specs.Seen.{place_at, target_place, section_place, seen_target}
+use Rattle.oc_neutral.specs.{Worth.{base_of, target_worth}, Invariants.{IsThere, IsLessThere}, KeySymbols.{global_place}}
+use Rattle.oc_neutral.specs.{Mach.SelfReferences.{is_section, is_long_distance}, Stored.{is_stored}, TargetRelocations.{fixed_end, global_section, is_symbol}}
+use Rattle.oc_neutral.specs.declared.reloc.Target.TheVariants as target
+use Rattle.oc_shows.specs.{Manners.{mach_manner, mach_hint, is_of_section, mach_by_section}, Seen.{place_at, target_place, section_place, seen_target}}
+use Rattle.oc_neutral.specs.Rows as rows
 use Rattle.oc_neutral.specs.Worth as worth
-use Rattle.oc_neutral.specs.Worth.{base_of, target_worth}
-use Rattle.oc_macho.specs.MachHeader.{mach_format}
-use Rattle.oc_macho.specs.Tables.{SectionTable, Tables}
+use Rattle.oc_macho.specs.{MachHeader.{mach_format}, Tables.{SectionTable, Tables}, Aims.{Aim, section_aim, aim_in}}
+use Rattle.oc_macho.specs.{Fields.{FieldParts, added_by, number_of, field_with, field_of}, Rules.{mach_dialect}}
 use Rattle.oc_macho.specs.Sections as read
-use Rattle.oc_macho.specs.Aims.{Aim, section_aim, aim_in}
-use Rattle.oc_macho.specs.Fields.{FieldParts, added_by, number_of, field_with, field_of}
-use Rattle.oc_macho.specs.Rules.{mach_dialect}
-use Rattle.oc_macho_file.specs.Addresses.{address_of}
-use Rattle.oc_macho_file.specs.Lines.{numbered_lines, own_number}
-use Rattle.oc_macho_file.specs.Bodies.{WrittenReloc, taken_section, alone_shift, pair_shift, field_shift, reference_to}
-use Rattle.oc_macho_file.specs.Canonical.{mach_file}
-use Rattle.oc_macho_file.proofs.TableLaws.{made_table, made_tables}
-use Rattle.oc_macho_file.proofs.CodedLaws.{IsForMach, placed_there}
-use Rattle.oc_macho_file.proofs.RowLaws.{counted_behind}
-use Rattle.oc_macho_file.proofs.EntryLaws.{mach_reloc, meets, entry, row_is, known, standing}
-use Rattle.oc_macho_file.proofs.SeenLaws.{shown, again}
-use Rattle.oc_macho_file.proofs.TargetLaws.{IsAimedAt}
-use Rattle.oc_macho_file.proofs.FieldLaws.{number, found_long, found_short}
-use Rattle.oc_macho_file.proofs.AgainLaws.{placed_dialect}
-use Rattle.oc_neutral.specs.Invariants.{IsThere, IsLessThere}
-use Rattle.oc_neutral.specs.KeySymbols.{global_place}
-use Rattle.oc_neutral.specs.Mach.SelfReferences.{is_section, is_long_distance}
-use Rattle.oc_neutral.specs.Stored.{is_stored}
-use Rattle.oc_neutral.specs.TargetRelocations.{fixed_end, global_section, is_symbol}
+use Rattle.oc_macho_file.specs.{Addresses.{address_of}, Lines.{numbered_lines, own_number}}
+use Rattle.oc_macho_file.specs.{Bodies.{WrittenReloc, taken_section, alone_shift, pair_shift, field_shift, reference_to}, Canonical.{mach_file}}
+use Rattle.oc_macho_file.specs.Bodies.{end_address, end_section_address}
+use Rattle.oc_macho_file.proofs.{TableLaws.{made_table, made_tables}, CodedLaws.{IsForMach, placed_there}, RowLaws.{counted_behind}}
+use Rattle.oc_macho_file.proofs.{EntryLaws.{mach_reloc, meets, entry, row_is, known, standing}, SeenLaws.{shown, again}, TargetLaws.{IsAimedAt}}
+use Rattle.oc_macho_file.proofs.{FieldLaws.{number, found_long, found_short}, AgainLaws.{placed_dialect}, NameLaws.{needed_low}}
+use Rattle.oc_macho_file.proofs.{RowLaws.{IsPairRow, IsDifferenceRow}, EntryLaws.{pair_second}, PinLaws.{IsTakenSection, Another, Own, taken_is, taken_needed}}
+use Rattle.oc_macho_file.proofs.{AimLaws.{own_aimed, address_aimed}, TargetLaws.{section_target}}
+use Rattle.oc_macho_file.proofs.GivenLaws.{pair_value, own_value, one_of_two, q, IsGivenField, residue_held, number_is, seen_as, seen_at, conclude}
 use Rattle.oc_neutral.proofs.Positions.{there_at}
 use Rattle.oc_macho.specs.declared.relocation_info.Reference.TheVariants as reference
-use Rattle.oc_macho_file.specs.Bodies.{end_address, end_section_address}
-use Rattle.oc_macho_file.proofs.NameLaws.{needed_low}
-use Rattle.oc_macho_file.proofs.RowLaws.{IsPairRow, IsDifferenceRow}
-use Rattle.oc_macho_file.proofs.EntryLaws.{pair_second}
-use Rattle.oc_macho_file.proofs.PinLaws.{IsTakenSection, Another, Own, taken_is, taken_needed}
-use Rattle.oc_macho_file.proofs.AimLaws.{own_aimed, address_aimed}
-use Rattle.oc_macho_file.proofs.TargetLaws.{section_target}
-use Rattle.oc_macho_file.proofs.GivenLaws.{pair_value, own_value, one_of_two, q, IsGivenField, residue_held, number_is, seen_as, seen_at, conclude}
 use Rattle.oc_shows.proofs.Looking.{cancels-symbol}
 
 less_more : (N : ℤ) → N +ℤ neg_ℤ (pos 0) ≡ N -ℤ pos 0 +ℤ pos 0

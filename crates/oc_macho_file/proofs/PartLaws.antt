@@ -1,32 +1,19 @@
 -- The parts of a canonical file: their sizes, and that they stand at their places.
 use Rattle.std.proofs.Common.{◌≡◌, ℕ, zero, suc, ◌+◌, ◌-◌, ◌*◌, ◌%◌, ◌≤◌, Bool, true, false, not, List, ◌++◌, length, map, Some, refl, sym, ◌∙◌, ap, subst, inl, inr, arith}
-use Rattle.std.specs.Prelude.{slice_get, flat_map}
-use Rattle.std.specs.List.{enumerate_from}
-use Rattle.std.proofs.lemmas.List.{length-map}
-use Rattle.std.proofs.lemmas.List.FromFn.{length-enumerate_from}
-use Rattle.std.proofs.lemmas.Bool.{true≢false, eqb-true, eq-eqb}
-use Rattle.std.proofs.lemmas.Option.{none-some, same_Some}
-use Rattle.oc_base.specs.declared.format.Word.{Word}
-use Rattle.oc_base.specs.declared.format.Word.TheVariants.{W32, W64}
+use Rattle.std.specs.{Prelude.{slice_get, flat_map}, List.{enumerate_from}}
+use Rattle.std.proofs.lemmas.{List.{length-map}, List.FromFn.{length-enumerate_from}, Bool.{true≢false, eqb-true, eq-eqb}, Option.{none-some, same_Some}}
+use Rattle.oc_base.specs.{declared.format.Word.{Word}, declared.format.Word.TheVariants.{W32, W64}}
 use Rattle.oc_base.proofs.NumberLaws.{length-table}
 use Rattle.oc_linking.proofs.Overlay.{length-overlay}
-use Rattle.oc_neutral.specs.declared.section.Section.{Section}
-use Rattle.oc_neutral.specs.Objects.{Object}
-use Rattle.oc_shelf.specs.Writing.Packed.{packed}
-use Rattle.oc_shelf.specs.Writing.Parts.{Stands, Laid, laid_end}
-use Rattle.oc_shelf.proofs.WritingLaws.PackedLemmas.{length-packed}
-use Rattle.oc_shelf.proofs.WritingLaws.PartLemmas.{stands_where, stands_laid, length-joined, aligned_rises}
+use Rattle.oc_neutral.specs.{declared.section.Section.{Section}, Objects.{Object}}
+use Rattle.oc_shelf.specs.{Writing.Packed.{packed}, Writing.Parts.{Stands, Laid, laid_end}}
+use Rattle.oc_shelf.proofs.{WritingLaws.PackedLemmas.{length-packed}, WritingLaws.PartLemmas.{stands_where, stands_laid, length-joined, aligned_rises}}
 use Rattle.oc_shelf.proofs.WritingLaws.StandingLemmas.{stands_at, length-entries}
 use Rattle.oc_shelf.proofs.WritingLaws.MemberLemmas.{member_first, member_second, member_enumerated, member_map, of_map, of_append, of_enumerated, of_filter, member_filter}
-use Rattle.oc_macho.specs.declared.section_header.SectionHeader.{SectionHeader}
-use Rattle.oc_macho.specs.MachHeader.{mach_header_size}
-use Rattle.oc_macho.specs.SegmentCommand.{segment_command_size}
-use Rattle.oc_macho.specs.SectionHeader.{section_header_size}
-use Rattle.oc_macho.specs.Nlist.{nlist_size}
+use Rattle.oc_macho.specs.{declared.section_header.SectionHeader.{SectionHeader}, MachHeader.{mach_header_size}, SegmentCommand.{segment_command_size}}
+use Rattle.oc_macho.specs.{SectionHeader.{section_header_size}, Nlist.{nlist_size}}
 use Rattle.oc_macho.specs.Structures.{mach_header_bytes, symtab_bytes, section_bytes, nlist_bytes, relocation_bytes}
-use Rattle.oc_macho_file.specs.Addresses.{Numbered, is_blank, stored_sections}
-use Rattle.oc_macho_file.specs.Lines.{lines_of}
-use Rattle.oc_macho_file.specs.Bodies.{field_patches, raw_of}
+use Rattle.oc_macho_file.specs.{Addresses.{Numbered, is_blank, stored_sections}, Lines.{lines_of}, Bodies.{field_patches, raw_of}}
 use Rattle.oc_macho_file.specs.Layout.{Part, FileHead, SegmentHead, SectionHeads, SymtabHead, DysymtabHead, Raw, Relocs, SymbolTable, StringTable, raw_part, relocs_part, table_parts, parts_of, contents_begin, relocs_of, string_table, part_size, entries_align, part_begin, laid_parts, part_where, is_raw, is_relocs, is_symbol_table, is_string_table}
 use Rattle.oc_macho_file.specs.Symbols.{line_entry}
 use Rattle.oc_macho_file.specs.Canonical.{file_header, segment_numbers, section_header, section_headers, symtab_command, dysymtab_numbers, part_bytes, mach_file}

@@ -1,40 +1,22 @@
 -- The symbols that pairs name: each section that is named has its line, and no symbol of the object is taken.
 use Rattle.std.proofs.Common.{◌≡◌, ℕ, Bool, true, false, ◌&&◌, ◌||◌, eqb, length, Option, Some, None, refl, sym, ◌∙◌, ap, subst, inl, inr}
-use Rattle.std.specs.Prelude.{slice_get, nat_eq}
-use Rattle.std.specs.List.{enumerate_from, filter}
-use Rattle.std.specs.Option.{option_map_or}
-use Rattle.std.proofs.lemmas.Bool.{true≢false, eq-eqb, ne_eqb}
-use Rattle.std.proofs.lemmas.Option.{same_Some}
-use Rattle.oc_base.specs.declared.format.Word.{Word}
-use Rattle.oc_base.specs.declared.format.Word.TheVariants.{W32, W64}
-use Rattle.oc_base.specs.Formats.{word_for}
-use Rattle.oc_linking.specs.declared.terms.Less.{Less}
+use Rattle.std.specs.{Prelude.{slice_get, nat_eq}, List.{enumerate_from, filter}, Option.{option_map_or}}
+use Rattle.std.proofs.lemmas.{Bool.{true≢false, eq-eqb, ne_eqb}, Option.{same_Some}}
+use Rattle.oc_base.specs.{declared.format.Word.{Word}, declared.format.Word.TheVariants.{W32, W64}, Formats.{word_for}}
+use Rattle.oc_linking.specs.{declared.terms.Less.{Less}, Keeping.{all}}
 use Rattle.oc_linking.specs.declared.terms.Less.TheVariants as less
-use Rattle.oc_linking.specs.Keeping.{all}
-use Rattle.oc_neutral.specs.declared.section.Section.{Section}
-use Rattle.oc_neutral.specs.declared.reloc.Reloc.{Reloc}
-use Rattle.oc_neutral.specs.declared.reloc.Target.TheVariants as target
-use Rattle.oc_neutral.specs.Mach.SectionSymbols.{names_section, needed_sections}
-use Rattle.oc_neutral.specs.Mach.SelfReferences.{is_section, is_long_distance}
-use Rattle.oc_target.specs.Meets.{IsTakenBy}
-use Rattle.oc_neutral.specs.Normal.{takes_section}
-use Rattle.oc_neutral.specs.Objects.{Object, reloc_at}
-use Rattle.oc_neutral.specs.Rows.{TakesZero, TakesPlace, TakesGotBase, TakesImageBase, TakesHome, TakesSection, taken_of, same_taken}
-use Rattle.oc_neutral.specs.Spelling.{written_row}
+use Rattle.oc_neutral.specs.{declared.section.Section.{Section}, declared.reloc.Reloc.{Reloc}, Mach.SectionSymbols.{names_section, needed_sections}}
+use Rattle.oc_neutral.specs.{Mach.SelfReferences.{is_section, is_long_distance}, Normal.{takes_section}, Objects.{Object, reloc_at}}
+use Rattle.oc_neutral.specs.{Rows.{TakesZero, TakesPlace, TakesGotBase, TakesImageBase, TakesHome, TakesSection, taken_of, same_taken}, Spelling.{written_row}}
 use Rattle.oc_neutral.specs.TargetRelocations.{section_taken}
-use Rattle.oc_shelf.proofs.ReadingLaws.FirstsLemmas.{any_none}
-use Rattle.oc_shelf.proofs.WritingLaws.MemberLemmas.{none_passes, of_map, of_filter}
-use Rattle.oc_macho.specs.declared.entries.Item.{Item}
-use Rattle.oc_macho.specs.MachHeader.{mach_format}
-use Rattle.oc_macho.specs.Sections.{is_kept}
-use Rattle.oc_macho.specs.Entries.{item_at, takes_symbol, is_taken_in, is_pinned}
+use Rattle.oc_neutral.specs.declared.reloc.Target.TheVariants as target
+use Rattle.oc_target.specs.Meets.{IsTakenBy}
+use Rattle.oc_shelf.proofs.{ReadingLaws.FirstsLemmas.{any_none}, WritingLaws.MemberLemmas.{none_passes, of_map, of_filter}}
+use Rattle.oc_macho.specs.{declared.entries.Item.{Item}, MachHeader.{mach_format}, Sections.{is_kept}, Entries.{item_at, takes_symbol, is_taken_in, is_pinned}}
 use Rattle.oc_macho_file.specs.Lines.{Line, OwnLine, LocalLine, OuterLine, lines_of, numbered_lines, own_number}
 use Rattle.oc_macho_file.specs.Bodies.{WrittenReloc, taken_section, entries_of}
-use Rattle.oc_macho_file.proofs.TableLaws.{made_table, made_sections, made_tables}
-use Rattle.oc_macho_file.proofs.CodedLaws.{IsForMach, word_back}
-use Rattle.oc_macho_file.proofs.LineLaws.{own_found}
-use Rattle.oc_macho_file.proofs.RowLaws.{IsKnown, KnownAlone, KnownPair, IsDifferenceRow, long_only}
-use Rattle.oc_macho_file.proofs.ItemLaws.{item_of}
+use Rattle.oc_macho_file.proofs.{TableLaws.{made_table, made_sections, made_tables}, CodedLaws.{IsForMach, word_back}, LineLaws.{own_found}}
+use Rattle.oc_macho_file.proofs.{RowLaws.{IsKnown, KnownAlone, KnownPair, IsDifferenceRow, long_only}, ItemLaws.{item_of}}
 use Rattle.oc_macho_file.proofs.EntryLaws.{written_pair, written_by, written_standing, pair_second, mach_reloc, meets, row, entry, row_is, known, standing, item_is}
 
 -- a needed section, by its index

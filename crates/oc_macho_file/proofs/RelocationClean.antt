@@ -1,59 +1,32 @@
 -- The relocation entries of a canonical file are well formed.
 use Rattle.std.proofs.Common.{◌≡◌, ℕ, zero, suc, ◌+◌, ◌^◌, ◌<◌, ◌≤◌, inl, inr, Bool, true, false, not, ◌&&◌, ◌||◌, cond, [], ◌++◌, length, map, Option, Some, None, refl, sym, ◌∙◌, ap, subst, arith}
-use Rattle.std.specs.Prelude.{slice_get, nat_lt, nat_eq, is_none, is_some}
-use Rattle.std.specs.List.{range_with_len, AllByRecursion}
+use Rattle.std.specs.{Prelude.{slice_get, nat_lt, nat_eq, is_none, is_some}, List.{range_with_len, AllByRecursion}}
 use Rattle.std.specs.Option.{option_map, option_map_or, option_and_then}
-use Rattle.std.proofs.lemmas.Bool.{eq-eqb, cases_lt, and_right, and_left}
-use Rattle.std.proofs.lemmas.Bool.Decides.{nat_tests}
-use Rattle.std.proofs.lemmas.Option.{none-some, same_Some}
-use Rattle.oc_base.specs.declared.format.Word.{Word}
-use Rattle.oc_base.specs.declared.format.Word.TheVariants.{W32, W64}
+use Rattle.std.proofs.lemmas.{Bool.{eq-eqb, cases_lt, and_right, and_left}, Bool.Decides.{nat_tests}, Option.{none-some, same_Some}}
+use Rattle.oc_base.specs.{declared.format.Word.{Word}, declared.format.Word.TheVariants.{W32, W64}}
 use Rattle.oc_chains.specs.Lists.{list_of}
 use Rattle.oc_linking.specs.declared.terms.Base.TheVariants as base
-use Rattle.oc_linking.specs.declared.terms.Width.{Width}
-use Rattle.oc_linking.specs.declared.terms.Width.TheVariants.{One, Two, Four, Eight}
-use Rattle.oc_linking.specs.FirstFault.{Stage}
-use Rattle.oc_linking.specs.Fits.{bytes_of}
+use Rattle.oc_linking.specs.{declared.terms.Width.{Width}, declared.terms.Width.TheVariants.{One, Two, Four, Eight}, FirstFault.{Stage}, Fits.{bytes_of}}
 use Rattle.oc_linking.specs.Keeping.{all}
-use Rattle.oc_neutral.specs.declared.section.Section.{Section}
-use Rattle.oc_neutral.specs.declared.reloc.Reloc.{Reloc}
-use Rattle.oc_neutral.specs.declared.reloc.Target.{Target}
-use Rattle.oc_neutral.specs.declared.reloc.Target.TheVariants as target
-use Rattle.oc_neutral.specs.Dialects.{is_difference}
-use Rattle.oc_neutral.specs.Invariants.{IsThere}
-use Rattle.oc_neutral.specs.Mach.Relocs.{MachRow, length_of}
-use Rattle.oc_neutral.specs.Objects.{Object, reloc_at}
+use Rattle.oc_neutral.specs.{declared.section.Section.{Section}, declared.reloc.Reloc.{Reloc}, declared.reloc.Target.{Target}, Dialects.{is_difference}}
+use Rattle.oc_neutral.specs.{Invariants.{IsThere}, Mach.Relocs.{MachRow, length_of}, Objects.{Object, reloc_at}}
 use Rattle.oc_neutral.specs.Rows.{TakesPlace, TakesSection, same_taken, same_base}
-use Rattle.oc_neutral.proofs.Positions.{there_at}
-use Rattle.oc_neutral.proofs.Adding.{or_left}
+use Rattle.oc_neutral.specs.declared.reloc.Target.TheVariants as target
+use Rattle.oc_neutral.proofs.{Positions.{there_at}, Adding.{or_left}}
 use Rattle.oc_shelf.specs.Reading.Spans.{meets as spans_meet}
-use Rattle.oc_shelf.proofs.ReadingLaws.FirstsLemmas.{any_none}
-use Rattle.oc_shelf.proofs.ReadingLaws.StageLemmas.{Unbroken, IsUnbroken, unbroken_append}
-use Rattle.oc_macho.specs.declared.entries.Item.{Item}
-use Rattle.oc_macho.specs.declared.referent.Referent.{Referent}
-use Rattle.oc_macho.specs.declared.referent.Referent.TheVariants.{Fit}
-use Rattle.oc_macho.specs.declared.relocation_info.RelocationInfo.{RelocationInfo}
-use Rattle.oc_macho.specs.declared.relocation_info.Reference.TheVariants as reference
-use Rattle.oc_macho.specs.Aims.{Aim, section_aim, aim_in, target_in}
-use Rattle.oc_macho.specs.Entries.{row_for, item_at, target_entry, taken_entry, taken_reference}
-use Rattle.oc_macho.specs.Fields.{FieldParts, field_parts_by, field_of}
-use Rattle.oc_macho.specs.Referents.{fit_for, referent_by, referent_in, is_nothing, cannot_be_target, cannot_be_taken, reads_slot}
-use Rattle.oc_macho.specs.Sections.{is_kept}
+use Rattle.oc_shelf.proofs.{ReadingLaws.FirstsLemmas.{any_none}, ReadingLaws.StageLemmas.{Unbroken, IsUnbroken, unbroken_append}}
+use Rattle.oc_macho.specs.{declared.entries.Item.{Item}, declared.referent.Referent.{Referent}, declared.referent.Referent.TheVariants.{Fit}}
+use Rattle.oc_macho.specs.{declared.relocation_info.RelocationInfo.{RelocationInfo}, Aims.{Aim, section_aim, aim_in, target_in}}
+use Rattle.oc_macho.specs.{Entries.{row_for, item_at, target_entry, taken_entry, taken_reference}, Fields.{FieldParts, field_parts_by, field_of}}
+use Rattle.oc_macho.specs.{Referents.{fit_for, referent_by, referent_in, is_nothing, cannot_be_target, cannot_be_taken, reads_slot}, Sections.{is_kept}}
 use Rattle.oc_macho.specs.Tables.{SectionTable, Tables}
 use Rattle.oc_macho.specs.RelocationFaults.{is_lone_second, is_odd_second, is_unknown, are_pair, is_no_pair, span_of, span_at, meets_upto, is_outside, refers_to_nothing, refers_wrongly, is_too_wide, folds_too_wide, form_conditions, target_conditions, last_conditions, item_conditions, entry_conditions, entry_stage, no_stage, relocation_stage, relocation_stages}
-use Rattle.oc_macho_file.specs.Bodies.{WrittenReloc, reference_to, plain_entry}
-use Rattle.oc_macho_file.specs.Lines.{numbered_lines, own_number, symbol_number}
-use Rattle.oc_macho_file.specs.Canonical.{section_header}
-use Rattle.oc_macho_file.proofs.TableLaws.{IsCodable, made_table, made_tables}
-use Rattle.oc_macho_file.proofs.CodedLaws.{IsForMach}
-use Rattle.oc_macho_file.proofs.SectionLaws.{table_at, length-tables}
-use Rattle.oc_macho_file.proofs.ItemLaws.{item_of, begin_of}
-use Rattle.oc_macho_file.proofs.RowLaws.{IsPairRow, IsDifferenceRow, IsKnown, KnownAlone, KnownPair}
+use Rattle.oc_macho.specs.declared.relocation_info.Reference.TheVariants as reference
+use Rattle.oc_macho_file.specs.{Bodies.{WrittenReloc, reference_to, plain_entry}, Lines.{numbered_lines, own_number, symbol_number}, Canonical.{section_header}}
+use Rattle.oc_macho_file.proofs.{TableLaws.{IsCodable, made_table, made_tables}, CodedLaws.{IsForMach}, SectionLaws.{table_at, length-tables}}
+use Rattle.oc_macho_file.proofs.{ItemLaws.{item_of, begin_of}, RowLaws.{IsPairRow, IsDifferenceRow, IsKnown, KnownAlone, KnownPair}}
 use Rattle.oc_macho_file.proofs.EntryLaws.{written_pair, written_by, meets, entry, known, row_is, standing, first_row, first_is, first_length, first_at, inside, is_stored, has_size, apart_by, places_differ, written_all, IsOfReloc, item_is}
-use Rattle.oc_macho_file.proofs.FieldLaws.{own_item}
-use Rattle.oc_macho_file.proofs.TargetLaws.{symbol_aimed}
-use Rattle.oc_macho_file.proofs.GivenLaws.{IsGivenField}
-use Rattle.oc_macho_file.proofs.ShowsLaw.{symbols_read, given_field}
+use Rattle.oc_macho_file.proofs.{FieldLaws.{own_item}, TargetLaws.{symbol_aimed}, GivenLaws.{IsGivenField}, ShowsLaw.{symbols_read, given_field}}
 use Rattle.oc_macho_file.proofs.HeaderClean.{within_file}
 
 -- the type of the second of a pair

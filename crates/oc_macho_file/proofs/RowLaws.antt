@@ -1,23 +1,16 @@
 -- The rows of the tables of Mach-O: what is written by them is read by them.
 use Rattle.std.proofs.Common.{◌≡◌, ℕ, suc, Bool, true, false, ◌&&◌, cond, List, [], ◌∷◌, Some, None, refl, sym, ◌∙◌, ap, inl, inr}
-use Rattle.std.specs.Prelude.{◌⊎◌, slice_get, nat_eq, is_some, find}
-use Rattle.std.specs.List.{AllByRecursion}
-use Rattle.std.proofs.lemmas.Bool.{true≢false}
-use Rattle.std.proofs.lemmas.Option.{none-some, same_Some}
-use Rattle.oc_base.specs.declared.format.Word.{Word}
-use Rattle.oc_base.specs.declared.format.Word.TheVariants.{W32, W64}
-use Rattle.oc_base.specs.declared.format.Format.TheVariants.{Mac64}
+use Rattle.std.specs.{Prelude.{◌⊎◌, slice_get, nat_eq, is_some, find}, List.{AllByRecursion}}
+use Rattle.std.proofs.lemmas.{Bool.{true≢false}, Option.{none-some, same_Some}}
+use Rattle.oc_base.specs.{declared.format.Word.{Word}, declared.format.Word.TheVariants.{W32, W64}, declared.format.Format.TheVariants.{Mac64}}
 use Rattle.oc_linking.specs.declared.terms.Base.TheVariants as base
-use Rattle.oc_linking.specs.declared.terms.Check.TheVariants.{Signed}
-use Rattle.oc_linking.specs.declared.terms.Hint.{Hint}
-use Rattle.oc_linking.specs.declared.terms.Hint.TheVariants.{Plain, Call}
-use Rattle.oc_linking.specs.declared.terms.Less.TheVariants as less
+use Rattle.oc_linking.specs.{declared.terms.Check.TheVariants.{Signed}, declared.terms.Hint.{Hint}, declared.terms.Hint.TheVariants.{Plain, Call}}
 use Rattle.oc_linking.specs.declared.terms.Width.TheVariants.{Four, Eight}
+use Rattle.oc_linking.specs.declared.terms.Less.TheVariants as less
 use Rattle.oc_algebra.specs.declared.form.Form.{Form}
 use Rattle.oc_neutral.specs.Mach.SelfReferences.{is_address, is_place, is_eight, is_long_distance}
 use Rattle.oc_neutral.specs.Mach.Relocs.{MachRow, length_of, mach_entries, entry_among, is_entry}
-use Rattle.oc_neutral.specs.Rows.{Row, Taken, TakesZero, TakesPlace, TakesSection, same_taken}
-use Rattle.oc_neutral.specs.Spelling.{written_row}
+use Rattle.oc_neutral.specs.{Rows.{Row, Taken, TakesZero, TakesPlace, TakesSection, same_taken}, Spelling.{written_row}}
 use Rattle.oc_neutral.proofs.Positions.{each_at}
 use Rattle.oc_macho.specs.declared.relocation_info.Reference.TheVariants as reference
 use Rattle.oc_macho.specs.Entries.{row_for}

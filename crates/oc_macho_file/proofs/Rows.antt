@@ -1,48 +1,27 @@
 -- Canonical files of objects, computed, and compared with files from outside.
 use Rattle.std.proofs.Common.{◌≡◌, ℕ, List, [], ◌∷◌, None, refl, ℤ, false}
-use Rattle.std.specs.Prelude.{codes, pos, negsuc}
-use Rattle.oc_base.specs.declared.format.Format.TheVariants.{Mac32, Mac64}
-use Rattle.oc_base.specs.declared.format.Word.TheVariants.{W32, W64}
+use Rattle.std.specs.{Prelude.{codes, pos, negsuc}, Fmt.{digits}}
+use Rattle.oc_base.specs.{declared.format.Format.TheVariants.{Mac32, Mac64}, declared.format.Word.TheVariants.{W32, W64}, Numbers.{bytes_of_number}}
 use Rattle.oc_base.specs.Strings as strings
-use Rattle.std.specs.Fmt.{digits}
-use Rattle.oc_base.specs.Numbers.{bytes_of_number}
-use Rattle.oc_algebra.specs.Fields.{field_for, to_field_of}
-use Rattle.oc_algebra.specs.Residues.{reduced_number, residue_of}
-use Rattle.oc_linking.specs.Fits.{bytes_of}
-use Rattle.oc_linking.specs.declared.terms.Base.{Base}
+use Rattle.oc_algebra.specs.{Fields.{field_for, to_field_of}, Residues.{reduced_number, residue_of}}
+use Rattle.oc_linking.specs.{Fits.{bytes_of}, declared.terms.Base.{Base}, declared.terms.Less.{Less}, declared.terms.Width.{Width}}
+use Rattle.oc_linking.specs.{declared.terms.Width.TheVariants.{Four, Eight}, declared.terms.Check.{Check}}
+use Rattle.oc_linking.specs.{declared.terms.Check.TheVariants.{Wrap, Signed, Unsigned}, declared.terms.Hint.{Hint}}
+use Rattle.oc_linking.specs.{declared.terms.Hint.TheVariants.{Plain, Call}, declared.terms.Kind.{Kind}, declared.terms.Mark.TheVariants.{NoType}}
+use Rattle.oc_linking.specs.{declared.terms.Visibility.{Visibility}, declared.terms.Visibility.TheVariants.{Default, Internal, Hidden, Protected}}
+use Rattle.oc_linking.specs.{declared.terms.Binding.{Binding}, declared.terms.Binding.TheVariants.{Local, Global, Undefined, Common, Weak}}
 use Rattle.oc_linking.specs.declared.terms.Base.TheVariants as base
-use Rattle.oc_linking.specs.declared.terms.Less.{Less}
 use Rattle.oc_linking.specs.declared.terms.Less.TheVariants as less
-use Rattle.oc_linking.specs.declared.terms.Width.{Width}
-use Rattle.oc_linking.specs.declared.terms.Width.TheVariants.{Four, Eight}
-use Rattle.oc_linking.specs.declared.terms.Check.{Check}
-use Rattle.oc_linking.specs.declared.terms.Check.TheVariants.{Wrap, Signed, Unsigned}
-use Rattle.oc_linking.specs.declared.terms.Hint.{Hint}
-use Rattle.oc_linking.specs.declared.terms.Hint.TheVariants.{Plain, Call}
-use Rattle.oc_linking.specs.declared.terms.Kind.{Kind}
 use Rattle.oc_linking.specs.declared.terms.Kind.TheVariants as kind
-use Rattle.oc_linking.specs.declared.terms.Mark.TheVariants.{NoType}
-use Rattle.oc_linking.specs.declared.terms.Visibility.{Visibility}
-use Rattle.oc_linking.specs.declared.terms.Visibility.TheVariants.{Default, Internal, Hidden, Protected}
 use Rattle.oc_linking.specs.declared.terms.Value.TheVariants as value
 use Rattle.oc_linking.specs.declared.terms.Fallback.TheVariants as fallback
-use Rattle.oc_linking.specs.declared.terms.Binding.{Binding}
-use Rattle.oc_linking.specs.declared.terms.Binding.TheVariants.{Local, Global, Undefined, Common, Weak}
 use Rattle.oc_chains.specs.declared.field.Field.{Field}
-use Rattle.oc_neutral.specs.declared.section.Section.{Section}
-use Rattle.oc_neutral.specs.declared.symbol.Symbol.{Symbol}
-use Rattle.oc_neutral.specs.declared.reloc.Reloc.{Reloc}
-use Rattle.oc_neutral.specs.declared.reloc.Target.{Target}
+use Rattle.oc_neutral.specs.{declared.section.Section.{Section}, declared.symbol.Symbol.{Symbol}, declared.reloc.Reloc.{Reloc}, declared.reloc.Target.{Target}}
+use Rattle.oc_neutral.specs.{Mach.SectionSymbols.{needs_section_symbol, needed_sections}, Objects.{Object}, Spelling.{written_row}}
 use Rattle.oc_neutral.specs.declared.reloc.Target.TheVariants as target
-use Rattle.oc_neutral.specs.Mach.SectionSymbols.{needs_section_symbol, needed_sections}
-use Rattle.oc_neutral.specs.Objects.{Object}
-use Rattle.oc_neutral.specs.Spelling.{written_row}
 use Rattle.oc_macho.specs.Structures.{mach_header_bytes, symtab_bytes, section_bytes, nlist_bytes, relocation_bytes}
-use Rattle.oc_macho_file.specs.Addresses.{address_of}
-use Rattle.oc_macho_file.specs.Lines.{lines_of}
-use Rattle.oc_macho_file.specs.Bodies.{field_number, raw_of, standing_entries, entries_of}
-use Rattle.oc_macho_file.specs.Layout.{parts_of, line_names, string_table}
-use Rattle.oc_macho_file.specs.Symbols.{exponent_of, line_entry}
+use Rattle.oc_macho_file.specs.{Addresses.{address_of}, Lines.{lines_of}, Bodies.{field_number, raw_of, standing_entries, entries_of}}
+use Rattle.oc_macho_file.specs.{Layout.{parts_of, line_names, string_table}, Symbols.{exponent_of, line_entry}}
 use Rattle.oc_macho_file.specs.Canonical.{file_header, segment_numbers, section_header, symtab_command, dysymtab_numbers, part_bytes, mach_file}
 use Rattle.oc_macho_file.proofs.WorkedFiles.{call_64, call_32, distance, compiled, everything_64, everything_32}
 

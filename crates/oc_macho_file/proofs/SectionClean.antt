@@ -1,45 +1,26 @@
 -- The section headers of a canonical file are well formed.
 use Rattle.std.proofs.Common.{◌≡◌, ℕ, zero, suc, ◌+◌, ◌-◌, ◌*◌, ◌^◌, ◌≤◌, Bool, true, false, not, ◌&&◌, ◌||◌, cond, List, [], ◌∷◌, length, take, Some, refl, sym, ◌∙◌, ap, subst, arith}
-use Rattle.std.specs.Prelude.{slice_get, nat_lt, flat_map}
-use Rattle.std.specs.List.{list_any, sum_by, before_first, position_or_len}
-use Rattle.std.specs.Option.{option_map_or}
-use Rattle.std.proofs.lemmas.Bool.{ne_eqb}
-use Rattle.std.proofs.lemmas.Option.{slice_get_within}
-use Rattle.oc_base.specs.declared.format.Word.{Word}
-use Rattle.oc_base.specs.declared.format.Word.TheVariants.{W32, W64}
+use Rattle.std.specs.{Prelude.{slice_get, nat_lt, flat_map}, List.{list_any, sum_by, before_first, position_or_len}, Option.{option_map_or}}
+use Rattle.std.proofs.lemmas.{Bool.{ne_eqb}, Option.{slice_get_within}}
+use Rattle.oc_base.specs.{declared.format.Word.{Word}, declared.format.Word.TheVariants.{W32, W64}}
 use Rattle.oc_base.proofs.NumberLaws.{length-table}
-use Rattle.oc_linking.specs.declared.terms.Kind.{Kind}
-use Rattle.oc_linking.specs.declared.terms.Kind.TheVariants.{Code, ReadOnly, Data, Zero, Init, Fini, Debug, Exception, Note}
+use Rattle.oc_linking.specs.{declared.terms.Kind.{Kind}, declared.terms.Kind.TheVariants.{Code, ReadOnly, Data, Zero, Init, Fini, Debug, Exception, Note}}
 use Rattle.oc_linking.specs.Numbers.{modulus}
-use Rattle.oc_neutral.specs.declared.section.Section.{Section}
-use Rattle.oc_neutral.specs.Building.{is_zero, stored_size}
-use Rattle.oc_neutral.specs.KindRules.{same_kind}
-use Rattle.oc_neutral.specs.Mach.Kinds.{is_comma, is_read_type, is_zerofill_tag, mach_kind, segment_of}
+use Rattle.oc_neutral.specs.{declared.section.Section.{Section}, Building.{is_zero, stored_size}, KindRules.{same_kind}}
+use Rattle.oc_neutral.specs.{Mach.Kinds.{is_comma, is_read_type, is_zerofill_tag, mach_kind, segment_of}, Objects.{Object}}
 use Rattle.oc_neutral.specs.Mach.Kinds as kinds
-use Rattle.oc_neutral.specs.Objects.{Object}
 use Rattle.oc_neutral.proofs.Positions.{there_at}
 use Rattle.oc_shelf.specs.Reading.Sums.{sum_upto}
-use Rattle.oc_shelf.proofs.ReadingLaws.StageLemmas.{Unbroken, IsUnbroken, unbroken_append}
-use Rattle.oc_shelf.proofs.WritingLaws.StandingLemmas.{stands_inside}
-use Rattle.oc_macho.specs.declared.section_header.SectionHeader.{SectionHeader}
-use Rattle.oc_macho.specs.Sections.{kind_of, until_nul}
-use Rattle.oc_macho.specs.Tables.{SectionTable, Tables}
+use Rattle.oc_shelf.proofs.{ReadingLaws.StageLemmas.{Unbroken, IsUnbroken, unbroken_append}, WritingLaws.StandingLemmas.{stands_inside}}
+use Rattle.oc_shelf.proofs.WritingLaws.SizeLemmas.{sum_list, sum_rises}
+use Rattle.oc_macho.specs.{declared.section_header.SectionHeader.{SectionHeader}, Sections.{kind_of, until_nul}, Tables.{SectionTable, Tables}}
 use Rattle.oc_macho.specs.SectionFaults.{is_odd, stored_of, size_at, stored_at, place_conditions, own_conditions, limit_conditions, section_conditions, section_stage}
 use Rattle.oc_macho.specs.Structures.{padded, relocation_bytes}
-use Rattle.oc_macho_file.specs.Addresses.{address_of}
-use Rattle.oc_macho_file.specs.Bodies.{raw_of}
-use Rattle.oc_macho_file.specs.Layout.{relocs_of, part_where, is_raw, is_relocs}
-use Rattle.oc_macho_file.specs.Symbols.{exponent_of}
+use Rattle.oc_macho_file.specs.{Addresses.{address_of}, Bodies.{raw_of}, Layout.{relocs_of, part_where, is_raw, is_relocs}, Symbols.{exponent_of}}
 use Rattle.oc_macho_file.specs.Canonical.{pointer_to, section_header, mach_file}
-use Rattle.oc_macho_file.proofs.StructureLaws.{length-relocation_bytes}
-use Rattle.oc_macho_file.proofs.PartLaws.{length-raw, stands_raw, stands_relocs}
-use Rattle.oc_macho_file.proofs.TableLaws.{made_tables}
-use Rattle.oc_macho_file.proofs.CodedLaws.{IsForMach, meets_section, size_low, exponent_low, stored_all}
-use Rattle.oc_macho_file.proofs.NameLaws.{segment_read, section_read}
-use Rattle.oc_macho_file.proofs.SectionLaws.{table_at, length-tables}
-use Rattle.oc_macho_file.proofs.AddressLaws.{memory_low, address_low}
-use Rattle.oc_macho_file.proofs.HeaderClean.{within_file}
-use Rattle.oc_shelf.proofs.WritingLaws.SizeLemmas.{sum_list, sum_rises}
+use Rattle.oc_macho_file.proofs.{StructureLaws.{length-relocation_bytes}, PartLaws.{length-raw, stands_raw, stands_relocs}, TableLaws.{made_tables}}
+use Rattle.oc_macho_file.proofs.{CodedLaws.{IsForMach, meets_section, size_low, exponent_low, stored_all}, NameLaws.{segment_read, section_read}}
+use Rattle.oc_macho_file.proofs.{SectionLaws.{table_at, length-tables}, AddressLaws.{memory_low, address_low}, HeaderClean.{within_file}}
 
 -- no comma stands before the first
 no_comma : (name : List ℕ) → list_any is_comma (before_first is_comma name) ≡ false

@@ -1,30 +1,18 @@
 -- The sections of a canonical file are those of the object.
 use Rattle.std.proofs.Common.{◌≡◌, ℕ, suc, ◌+◌, ◌-◌, ◌^◌, Bool, true, false, cond, eqb, List, [], ◌∷◌, length, map, replicate, Some, None, refl, sym, ◌∙◌, ap, arith}
-use Rattle.std.specs.Prelude.{slice_get}
-use Rattle.std.specs.List.{enumerate_from}
-use Rattle.std.specs.Option.{option_map, option_map_or}
-use Rattle.std.proofs.lemmas.Bool.{ne_eqb}
-use Rattle.std.proofs.lemmas.List.{length-map}
-use Rattle.std.proofs.lemmas.List.FromFn.{length-enumerate_from}
+use Rattle.std.specs.{Prelude.{slice_get}, List.{enumerate_from}, Option.{option_map, option_map_or}}
+use Rattle.std.proofs.lemmas.{Bool.{ne_eqb}, List.{length-map}, List.FromFn.{length-enumerate_from}}
 use Rattle.oc_base.specs.declared.format.Word.{Word}
 use Rattle.oc_linking.specs.declared.terms.Kind.{Kind}
 use Rattle.oc_linking.specs.Parts as parts
-use Rattle.oc_neutral.specs.declared.section.Section.{Section}
-use Rattle.oc_neutral.specs.Mach.Kinds.{mach_name, mach_kind, mach_tag, segment_of, is_zerofill_tag}
+use Rattle.oc_neutral.specs.{declared.section.Section.{Section}, Mach.Kinds.{mach_name, mach_kind, mach_tag, segment_of, is_zerofill_tag}, Objects.{Object}}
 use Rattle.oc_neutral.specs.Mach.Kinds as kinds
-use Rattle.oc_neutral.specs.Objects.{Object}
 use Rattle.oc_shelf.proofs.WritingLaws.MemberLemmas.{member_map, member_enumerated}
-use Rattle.oc_macho.specs.declared.section_header.SectionHeader.{SectionHeader}
-use Rattle.oc_macho.specs.Tables.{SectionTable}
-use Rattle.oc_macho.specs.Sections.{until_nul, kind_of, contents_of, section_of, sections_in, header_numbered}
+use Rattle.oc_macho.specs.{declared.section_header.SectionHeader.{SectionHeader}, Tables.{SectionTable}}
+use Rattle.oc_macho.specs.{Sections.{until_nul, kind_of, contents_of, section_of, sections_in, header_numbered}, Structures.{padded}}
 use Rattle.oc_macho.specs.Sections as read
-use Rattle.oc_macho.specs.Structures.{padded}
-use Rattle.oc_macho_file.specs.Addresses.{Numbered, address_of}
-use Rattle.oc_macho_file.specs.Bodies.{raw_of}
-use Rattle.oc_macho_file.specs.Symbols.{exponent_of}
-use Rattle.oc_macho_file.specs.Canonical.{section_header}
-use Rattle.oc_macho_file.proofs.TableLaws.{made_table, made_sections, made_tables}
-use Rattle.oc_macho_file.proofs.CodedLaws.{IsForMach, meets_section, power_back}
+use Rattle.oc_macho_file.specs.{Addresses.{Numbered, address_of}, Bodies.{raw_of}, Symbols.{exponent_of}, Canonical.{section_header}}
+use Rattle.oc_macho_file.proofs.{TableLaws.{made_table, made_sections, made_tables}, CodedLaws.{IsForMach, meets_section, power_back}}
 use Rattle.oc_macho_file.proofs.NameLaws.{segment_read, section_read}
 
 -- the contents that the file has of the section at a position

@@ -1,19 +1,12 @@
 -- The symbols of the object that is seen are those of the lines.
 use Rattle.std.proofs.Common.{◌≡◌, ℕ, false, List, Option, Some, None, refl, sym, ◌∙◌, ap}
-use Rattle.std.specs.Prelude.{slice_get, filter_map}
-use Rattle.std.specs.Option.{option_map, option_and_then}
-use Rattle.oc_base.specs.declared.format.Word.{Word}
-use Rattle.oc_base.specs.declared.format.Word.TheVariants.{W32, W64}
-use Rattle.oc_base.specs.Formats.{word_for}
+use Rattle.std.specs.{Prelude.{slice_get, filter_map}, Option.{option_map, option_and_then}}
+use Rattle.oc_base.specs.{declared.format.Word.{Word}, declared.format.Word.TheVariants.{W32, W64}, Formats.{word_for}}
 use Rattle.oc_linking.specs.Parts.{is_local}
-use Rattle.oc_neutral.specs.declared.symbol.Symbol.{Symbol}
-use Rattle.oc_neutral.specs.Families.{container_of}
-use Rattle.oc_shows.specs.Manners.{mach_manner, manner_of, own_manner}
-use Rattle.oc_neutral.specs.Objects.{Object}
-use Rattle.oc_shows.specs.Seen.{shown_from, new_position, seen_symbol, seen_symbols, seen_with, seen}
+use Rattle.oc_neutral.specs.{declared.symbol.Symbol.{Symbol}, Families.{container_of}, Objects.{Object}}
+use Rattle.oc_shows.specs.{Manners.{mach_manner, manner_of, own_manner}, Seen.{shown_from, new_position, seen_symbol, seen_symbols, seen_with, seen}}
 use Rattle.oc_shows.specs.SymbolLines.{mach_lines}
-use Rattle.oc_shows.proofs.SeenFamilies.{mach_table}
-use Rattle.oc_shows.proofs.SeenLines.{IsShown, table_shows}
+use Rattle.oc_shows.proofs.{SeenFamilies.{mach_table}, SeenLines.{IsShown, table_shows}}
 use Rattle.oc_shelf.specs.Writing.Parts.{Laid}
 use Rattle.oc_made_files.proofs.MadeLaws as made
 use Rattle.oc_made_files.proofs.ShownLines as by_lines

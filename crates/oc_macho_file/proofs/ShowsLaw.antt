@@ -1,63 +1,33 @@
 -- The canonical file of an object that is ready for Mach-O shows the object that is seen.
 use Rattle.std.proofs.Common.{◌≡◌, ℕ, inl, inr, Bool, true, false, List, length, Option, Some, None, refl, sym, ◌∙◌, ap, subst, arith}
-use Rattle.std.specs.Prelude.{slice_get}
-use Rattle.std.specs.Option.{option_map, option_and_then}
-use Rattle.std.proofs.lemmas.Bool.{cases_lt, true≢false}
-use Rattle.std.proofs.lemmas.Option.{none-some, same_Some}
-use Rattle.oc_base.specs.declared.format.Word.{Word}
-use Rattle.oc_base.specs.declared.format.Word.TheVariants.{W32, W64}
-use Rattle.oc_linking.specs.Keeping.{all}
-use Rattle.oc_linking.specs.Parts.{is_local}
-use Rattle.oc_linking.specs.Rules.{Field}
-use Rattle.oc_neutral.specs.declared.section.Section.{Section}
-use Rattle.oc_neutral.specs.declared.symbol.Symbol.{Symbol}
-use Rattle.oc_neutral.specs.declared.reloc.Reloc.{Reloc}
-use Rattle.oc_neutral.specs.declared.reloc.Target.{Target}
+use Rattle.std.specs.{Prelude.{slice_get}, Option.{option_map, option_and_then}}
+use Rattle.std.proofs.lemmas.{Bool.{cases_lt, true≢false}, Option.{none-some, same_Some}}
+use Rattle.oc_base.specs.{declared.format.Word.{Word}, declared.format.Word.TheVariants.{W32, W64}}
+use Rattle.oc_linking.specs.{Keeping.{all}, Parts.{is_local}, Rules.{Field}}
+use Rattle.oc_neutral.specs.{declared.section.Section.{Section}, declared.symbol.Symbol.{Symbol}, declared.reloc.Reloc.{Reloc}, declared.reloc.Target.{Target}}
+use Rattle.oc_neutral.specs.{Dialects.{Dialect, target_by, is_difference, kept_fields}, Faces.{key_of, shown_symbols, frame_of}, Invariants.{IsObject, IsThere}}
+use Rattle.oc_neutral.specs.{Mach.Kinds.{is_zerofill_tag}, Objects.{Object, reloc_at}, Rows.{TakesSection}, Shifts.{entry_target_shift}}
 use Rattle.oc_neutral.specs.declared.reloc.Target.TheVariants as target
-use Rattle.oc_shows.specs.Again.{HasContents}
-use Rattle.oc_neutral.specs.Dialects.{Dialect, target_by, is_difference, kept_fields}
-use Rattle.oc_neutral.specs.Faces.{key_of, shown_symbols, frame_of}
+use Rattle.oc_shows.specs.{Again.{HasContents}, Manners.{mach_manner}, RowFields.{place_target}, Seen.{seen, seen_section, seen_target}, Shows.{Shows}}
 use Rattle.oc_target.specs.Fitted.{IsFitted}
-use Rattle.oc_neutral.specs.Invariants.{IsObject, IsThere}
-use Rattle.oc_neutral.specs.Mach.Kinds.{is_zerofill_tag}
-use Rattle.oc_shows.specs.Manners.{mach_manner}
-use Rattle.oc_neutral.specs.Objects.{Object, reloc_at}
-use Rattle.oc_shows.specs.RowFields.{place_target}
-use Rattle.oc_neutral.specs.Rows.{TakesSection}
-use Rattle.oc_shows.specs.Seen.{seen, seen_section, seen_target}
-use Rattle.oc_neutral.specs.Shifts.{entry_target_shift}
-use Rattle.oc_shows.specs.Shows.{Shows}
 use Rattle.oc_shows.proofs.AgainLaws.{inside_of}
 use Rattle.oc_neutral.proofs.Positions.{there_at}
 use Rattle.oc_target.proofs.SeenLaws.{seen_is_object_law}
 use Rattle.oc_made_files.specs.MadeFiles.{IsMadeField, IsMadeFile}
 use Rattle.oc_made_files.proofs.MadeLaws.{numbered_target, field_kept, patched_beside, contents_by_type, made_read_again}
 use Rattle.oc_macho.specs.declared.relocation_info.Reference.TheVariants as reference
-use Rattle.oc_macho.specs.MachHeader.{mach_format}
-use Rattle.oc_macho.specs.Tables.{Tables, tables_of}
-use Rattle.oc_macho.specs.Sections.{sections_in}
-use Rattle.oc_macho.specs.Aims.{Aim, section_aim, fixed_place, aim_in}
-use Rattle.oc_macho.specs.Fields.{fields_in}
-use Rattle.oc_macho.specs.Rules.{symbols_in, mach_dialect}
-use Rattle.oc_macho_file.specs.Addresses.{address_of}
-use Rattle.oc_macho_file.specs.Lines.{numbered_lines, symbol_number}
-use Rattle.oc_macho_file.specs.Bodies.{entry_target_of, field_patch, raw_of, reference_to}
+use Rattle.oc_macho.specs.{MachHeader.{mach_format}, Tables.{Tables, tables_of}, Sections.{sections_in}, Aims.{Aim, section_aim, fixed_place, aim_in}}
+use Rattle.oc_macho.specs.{Fields.{fields_in}, Rules.{symbols_in, mach_dialect}}
+use Rattle.oc_macho_file.specs.{Addresses.{address_of}, Lines.{numbered_lines, symbol_number}, Bodies.{entry_target_of, field_patch, raw_of, reference_to}}
 use Rattle.oc_macho_file.specs.Canonical.{mach_file}
-use Rattle.oc_macho_file.proofs.PartLaws.{length-raw}
-use Rattle.oc_macho_file.proofs.TableLaws.{IsCodable, made_tables, tables_read}
+use Rattle.oc_macho_file.proofs.{PartLaws.{length-raw}, TableLaws.{IsCodable, made_tables, tables_read}}
 use Rattle.oc_macho_file.proofs.CodedLaws.{IsForMach, word_back, meets_section, has_bytes}
-use Rattle.oc_macho_file.proofs.RowLaws.{IsPairRow, IsDifferenceRow, IsKnown, KnownAlone, KnownPair}
-use Rattle.oc_macho_file.proofs.EntryLaws.{meets, entry, row_is, known, none_past}
-use Rattle.oc_macho_file.proofs.SectionLaws.{made_contents, made_section, sections_are}
-use Rattle.oc_macho_file.proofs.SeenLaws.{shown, again, manner_is, again_is, are_shown}
-use Rattle.oc_macho_file.proofs.PinLaws.{target_needed}
-use Rattle.oc_macho_file.proofs.AimLaws.{own_aimed, section_aimed}
-use Rattle.oc_macho_file.proofs.SymbolLaws.{symbols_are}
-use Rattle.oc_macho_file.proofs.TargetLaws.{IsAimedAt, section_target, shown_there, symbol_aimed, symbol_target_is}
-use Rattle.oc_macho_file.proofs.FieldLaws.{no_field, fields_past}
+use Rattle.oc_macho_file.proofs.{RowLaws.{IsPairRow, IsDifferenceRow, IsKnown, KnownAlone, KnownPair}, EntryLaws.{meets, entry, row_is, known, none_past}}
+use Rattle.oc_macho_file.proofs.{SectionLaws.{made_contents, made_section, sections_are}, SeenLaws.{shown, again, manner_is, again_is, are_shown}}
+use Rattle.oc_macho_file.proofs.{PinLaws.{target_needed}, AimLaws.{own_aimed, section_aimed}, SymbolLaws.{symbols_are}}
+use Rattle.oc_macho_file.proofs.{TargetLaws.{IsAimedAt, section_target, shown_there, symbol_aimed, symbol_target_is}, FieldLaws.{no_field, fields_past}}
 use Rattle.oc_macho_file.proofs.AgainLaws.{placed_field, placed_dialect, placed_shows}
-use Rattle.oc_macho_file.proofs.GivenLaws.{IsGivenField, IsCounting, Long, Short, lone_is, given_alone}
-use Rattle.oc_macho_file.proofs.PairLaws.{given_long, given_short}
+use Rattle.oc_macho_file.proofs.{GivenLaws.{IsGivenField, IsCounting, Long, Short, lone_is, given_alone}, PairLaws.{given_long, given_short}}
 
 module _ (w : Word) (n : Object) (is : IsForMach w n) (fits : IsCodable w n) where
   abbrev file : List ℕ

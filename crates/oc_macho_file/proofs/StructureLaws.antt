@@ -1,26 +1,16 @@
 -- The structures of both words are read back where their bytes stand.
 use Rattle.std.proofs.Common.{◌≡◌, ℕ, ◌+◌, ◌*◌, ◌/◌, ◌%◌, ◌^◌, ◌<◌, ◌≤◌, true, false, cond, List, [], ◌∷◌, ◌++◌, length, take, drop, replicate, refl, sym, ◌∙◌, ap, arith, length-append}
 use Rattle.std.specs.Prelude.{nat_le, nat_eq}
-use Rattle.std.proofs.lemmas.List.{length-take-le}
-use Rattle.std.proofs.lemmas.Bool.Decides.{nat_tests}
-use Rattle.oc_base.specs.declared.format.Word.{Word}
-use Rattle.oc_base.specs.declared.format.Word.TheVariants.{W32, W64}
-use Rattle.oc_base.specs.Numbers.{number_at}
-use Rattle.oc_shelf.specs.Writing.Packed.{packed}
-use Rattle.oc_shelf.specs.Writing.Parts.{Stands}
+use Rattle.std.proofs.lemmas.{List.{length-take-le}, Bool.Decides.{nat_tests}}
+use Rattle.oc_base.specs.{declared.format.Word.{Word}, declared.format.Word.TheVariants.{W32, W64}, Numbers.{number_at}}
+use Rattle.oc_shelf.specs.{Writing.Packed.{packed}, Writing.Parts.{Stands}}
 use Rattle.oc_shelf.proofs.WritingLaws.PackedLemmas.{Fit, widths, length-packed, number_in}
 use Rattle.oc_shelf.proofs.WritingLaws.StandingLemmas.{stands_front, stands_back, stands_take}
-use Rattle.oc_macho.specs.declared.mach_header.MachHeader.{MachHeader}
-use Rattle.oc_macho.specs.declared.section_header.SectionHeader.{SectionHeader}
-use Rattle.oc_macho.specs.declared.symtab_command.SymtabCommand.{SymtabCommand}
-use Rattle.oc_macho.specs.declared.nlist.Nlist.{Nlist}
-use Rattle.oc_macho.specs.declared.relocation_info.Reference.{Reference}
-use Rattle.oc_macho.specs.declared.relocation_info.Reference.TheVariants.{Symbol, Section, Address}
-use Rattle.oc_macho.specs.declared.relocation_info.RelocationInfo.{RelocationInfo}
-use Rattle.oc_macho.specs.MachHeader.{mach_header_size, mach_header_of}
-use Rattle.oc_macho.specs.SectionHeader.{section_header_size, section_header_at}
-use Rattle.oc_macho.specs.SymtabCommand.{symtab_command_at}
-use Rattle.oc_macho.specs.Nlist.{nlist_size, nlist_at}
+use Rattle.oc_macho.specs.{declared.mach_header.MachHeader.{MachHeader}, declared.section_header.SectionHeader.{SectionHeader}}
+use Rattle.oc_macho.specs.{declared.symtab_command.SymtabCommand.{SymtabCommand}, declared.nlist.Nlist.{Nlist}, declared.relocation_info.Reference.{Reference}}
+use Rattle.oc_macho.specs.{declared.relocation_info.Reference.TheVariants.{Symbol, Section, Address}, declared.relocation_info.RelocationInfo.{RelocationInfo}}
+use Rattle.oc_macho.specs.{MachHeader.{mach_header_size, mach_header_of}, SectionHeader.{section_header_size, section_header_at}}
+use Rattle.oc_macho.specs.{SymtabCommand.{symtab_command_at}, Nlist.{nlist_size, nlist_at}}
 use Rattle.oc_macho.specs.RelocationInfo.{scattered_of, reference_of, relocation_info_of, relocation_info_at}
 use Rattle.oc_macho.specs.Structures.{padded, mach_header_numbers, mach_header_bytes, symtab_numbers, symtab_bytes, section_numbers, section_bytes, nlist_numbers, nlist_bytes, first_word, plain_word, second_word, relocation_bytes}
 

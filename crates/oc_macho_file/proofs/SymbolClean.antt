@@ -1,36 +1,21 @@
 -- The symbols of a canonical file are well formed.
 use Rattle.std.proofs.Common.{◌≡◌, ℕ, zero, suc, ◌+◌, ◌<◌, inl, inr, Bool, true, false, not, ◌&&◌, ◌||◌, cond, List, [], ◌∷◌, ◌++◌, map, Option, Some, None, refl, sym, ◌∙◌, ap, subst, arith}
-use Rattle.std.specs.Prelude.{slice_get, nat_lt, bytes_eq, is_none, is_some}
-use Rattle.std.specs.Option.{option_map, option_map_or, option_flatten, unwrap_or}
-use Rattle.std.proofs.lemmas.Bool.{cases_lt}
-use Rattle.std.proofs.lemmas.Bool.Decides.{nat_tests}
-use Rattle.std.proofs.lemmas.List.{length-map}
-use Rattle.std.proofs.lemmas.Option.{none-some, same_Some}
+use Rattle.std.specs.{Prelude.{slice_get, nat_lt, bytes_eq, is_none, is_some}, Option.{option_map, option_map_or, option_flatten, unwrap_or}}
+use Rattle.std.proofs.lemmas.{Bool.{cases_lt}, Bool.Decides.{nat_tests}, List.{length-map}, Option.{none-some, same_Some}}
 use Rattle.oc_base.specs.declared.format.Word.{Word}
 use Rattle.oc_linking.specs.FirstFault.{Condition}
-use Rattle.oc_neutral.specs.declared.symbol.Symbol.{Symbol}
-use Rattle.oc_neutral.specs.Objects.{Object}
+use Rattle.oc_neutral.specs.{declared.symbol.Symbol.{Symbol}, Objects.{Object}}
 use Rattle.oc_strings.specs.Repeats.{repeat_at}
 use Rattle.oc_strings.specs.Repeats as repeats
 use Rattle.oc_neutral.proofs.Positions.{there_at}
-use Rattle.oc_shelf.proofs.ReadingLaws.StageLemmas.{Unbroken, IsUnbroken, unbroken_append}
-use Rattle.oc_shelf.proofs.WritingLaws.MemberLemmas.{member_map}
-use Rattle.oc_macho.specs.declared.constants.TheConstants.{N_SECT}
-use Rattle.oc_macho.specs.declared.nlist.Nlist.{Nlist}
-use Rattle.oc_macho.specs.Sections.{header_numbered}
-use Rattle.oc_macho.specs.Symbols.{name_at, name_of, is_stab, is_type, is_external}
-use Rattle.oc_macho.specs.Tables.{Tables}
+use Rattle.oc_shelf.proofs.{ReadingLaws.StageLemmas.{Unbroken, IsUnbroken, unbroken_append}, WritingLaws.MemberLemmas.{member_map}}
+use Rattle.oc_macho.specs.{declared.constants.TheConstants.{N_SECT}, declared.nlist.Nlist.{Nlist}, Sections.{header_numbered}}
+use Rattle.oc_macho.specs.{Symbols.{name_at, name_of, is_stab, is_type, is_external}, Tables.{Tables}}
 use Rattle.oc_macho.specs.SymbolFaults.{is_odd, is_outside, public_name, public_names, kind_conditions, home_conditions, name_conditions, symbol_conditions, symbol_stage}
-use Rattle.oc_macho_file.specs.Addresses.{address_of}
-use Rattle.oc_macho_file.specs.Lines.{Line, OwnLine, LocalLine, OuterLine, lines_of}
-use Rattle.oc_macho_file.specs.Symbols.{line_entry, own_entry, symbol_entry}
+use Rattle.oc_macho_file.specs.{Addresses.{address_of}, Lines.{Line, OwnLine, LocalLine, OuterLine, lines_of}, Symbols.{line_entry, own_entry, symbol_entry}}
 use Rattle.oc_macho_file.specs.Canonical.{section_header}
-use Rattle.oc_macho_file.proofs.TableLaws.{made_tables}
-use Rattle.oc_macho_file.proofs.CodedLaws.{IsForMach, named}
-use Rattle.oc_macho_file.proofs.LineLaws.{IsLine, line_at, one_outer}
-use Rattle.oc_macho_file.proofs.NameLaws.{line_named, needed_low}
-use Rattle.oc_macho_file.proofs.SectionLaws.{header_made}
-use Rattle.oc_macho_file.proofs.SymbolLaws.{some_name, entry_read}
+use Rattle.oc_macho_file.proofs.{TableLaws.{made_tables}, CodedLaws.{IsForMach, named}, LineLaws.{IsLine, line_at, one_outer}}
+use Rattle.oc_macho_file.proofs.{NameLaws.{line_named, needed_low}, SectionLaws.{header_made}, SymbolLaws.{some_name, entry_read}}
 use Rattle.oc_shows.proofs.FoundLaws.{no_repeat}
 
 mapped_get : {X Y : Type 0} (f : X → Y) (xs : List X) (i : ℕ) → slice_get (map f xs) i ≡ option_map f (slice_get xs i)

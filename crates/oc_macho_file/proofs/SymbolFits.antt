@@ -1,34 +1,24 @@
 -- The numbers of section headers and symbols fit their widths, in a file of fewer than 2^32 bytes.
 use Rattle.std.proofs.Common.{◌≡◌, ℕ, ◌+◌, ◌^◌, ◌<◌, ◌≤◌, ◌⊎◌, inl, inr, Bool, true, false, cond, List, Some, refl, sym, subst, arith}
 use Rattle.std.specs.Prelude.{slice_get}
-use Rattle.oc_base.specs.declared.format.Word.{Word}
-use Rattle.oc_base.specs.declared.format.Word.TheVariants.{W32, W64}
-use Rattle.oc_linking.specs.Numbers.{modulus}
-use Rattle.oc_linking.specs.declared.terms.Binding.{Binding}
-use Rattle.oc_linking.specs.declared.terms.Binding.TheVariants.{Local, Global, Undefined, Common, Weak}
-use Rattle.oc_linking.specs.declared.terms.Fallback.TheVariants as fallback
-use Rattle.oc_linking.specs.declared.terms.Value.{Value}
-use Rattle.oc_linking.specs.declared.terms.Value.TheVariants as value
-use Rattle.oc_linking.specs.declared.terms.Visibility.{Visibility}
+use Rattle.oc_base.specs.{declared.format.Word.{Word}, declared.format.Word.TheVariants.{W32, W64}}
+use Rattle.oc_linking.specs.{Numbers.{modulus}, declared.terms.Binding.{Binding}, declared.terms.Binding.TheVariants.{Local, Global, Undefined, Common, Weak}}
+use Rattle.oc_linking.specs.{declared.terms.Value.{Value}, declared.terms.Visibility.{Visibility}}
 use Rattle.oc_linking.specs.declared.terms.Visibility.TheVariants.{Default, Internal, Hidden, Protected}
-use Rattle.oc_neutral.specs.declared.symbol.Symbol.{Symbol}
-use Rattle.oc_neutral.specs.Invariants.{IsValue, IsBinding, HasOffset}
+use Rattle.oc_linking.specs.declared.terms.Fallback.TheVariants as fallback
+use Rattle.oc_linking.specs.declared.terms.Value.TheVariants as value
+use Rattle.oc_neutral.specs.{declared.symbol.Symbol.{Symbol}, Invariants.{IsValue, IsBinding, HasOffset}, Objects.{Object}}
+use Rattle.oc_neutral.specs.Mach.SectionSymbols.{section_symbol_name}
 use Rattle.oc_shows.specs.Manners.{mach_vis}
 use Rattle.oc_neutral.specs.Bindings as weak
-use Rattle.oc_neutral.specs.Objects.{Object}
-use Rattle.oc_neutral.specs.Mach.SectionSymbols.{section_symbol_name}
 use Rattle.oc_neutral.proofs.Positions.{there_at}
 use Rattle.std.proofs.lemmas.Option.{slice_get_within}
 use Rattle.oc_shelf.proofs.WritingLaws.PackedLemmas.{Fit}
-use Rattle.oc_macho.specs.Structures.{nlist_numbers}
-use Rattle.oc_macho_file.specs.Lines.{Line, OwnLine, LocalLine, OuterLine, lines_of}
-use Rattle.oc_macho_file.specs.Layout.{line_names, offset_in}
+use Rattle.oc_macho.specs.{Structures.{nlist_numbers}, declared.nlist.Nlist.{Nlist}}
+use Rattle.oc_macho_file.specs.{Lines.{Line, OwnLine, LocalLine, OuterLine, lines_of}, Layout.{line_names, offset_in}}
 use Rattle.oc_macho_file.specs.Symbols.{ValueFields, value_fields_at, value_fields_elsewhere, value_fields_by, value_fields_for, value_fields_of, external_flag, private_flag, desc_by, symbol_entry, own_entry, line_entry}
-use Rattle.oc_macho_file.proofs.CodedLaws.{IsForMach, IsPlaced, symbol_is, fallback_is, exponent_low, word_is}
-use Rattle.oc_macho_file.proofs.LineLaws.{IsLine, line_at}
-use Rattle.oc_macho_file.proofs.NameLaws.{needed_low}
-use Rattle.oc_macho_file.proofs.AddressLaws.{memory_low, address_low}
-use Rattle.oc_macho.specs.declared.nlist.Nlist.{Nlist}
+use Rattle.oc_macho_file.proofs.{CodedLaws.{IsForMach, IsPlaced, symbol_is, fallback_is, exponent_low, word_is}, LineLaws.{IsLine, line_at}}
+use Rattle.oc_macho_file.proofs.{NameLaws.{needed_low}, AddressLaws.{memory_low, address_low}}
 
 modulus_high : (w : Word) → 2 ^ 32 ≤ modulus w
 modulus_high W32 = omega arith

@@ -1,59 +1,35 @@
 -- The symbols of a canonical file are those that are seen of the object.
 use Rattle.std.proofs.Common.{◌≡◌, ℕ, zero, suc, ◌+◌, ◌-◌, ◌*◌, ◌/◌, ◌%◌, ◌^◌, ◌<◌, ◌≤◌, ◌⊎◌, inl, inr, Bool, true, false, not, ◌&&◌, ◌||◌, cond, eqb, List, [], ◌∷◌, length, map, Option, Some, None, refl, sym, ◌∙◌, ap, subst, arith}
-use Rattle.std.specs.Prelude.{slice_get, nat_lt, nat_eq, bytes_eq, is_none, filter_map}
-use Rattle.std.specs.List.{cons_option, enumerate_from}
+use Rattle.std.specs.{Prelude.{slice_get, nat_lt, nat_eq, bytes_eq, is_none, filter_map}, List.{cons_option, enumerate_from}}
 use Rattle.std.specs.Option.{option_map, option_map_or, unwrap_or}
-use Rattle.std.proofs.lemmas.Bool.{true≢false, ne_eqb, eq-eqb, and_right}
-use Rattle.std.proofs.lemmas.Bool.Decides.{nat_tests}
-use Rattle.oc_base.specs.declared.format.Word.{Word}
-use Rattle.oc_base.specs.declared.format.Word.TheVariants.{W32, W64}
-use Rattle.oc_linking.specs.declared.terms.Mark.TheVariants.{NoType}
-use Rattle.oc_linking.specs.declared.terms.Visibility.{Visibility}
-use Rattle.oc_linking.specs.declared.terms.Visibility.TheVariants.{Default, Internal, Hidden, Protected}
-use Rattle.oc_linking.specs.declared.terms.Value.{Value}
+use Rattle.std.proofs.lemmas.{Bool.{true≢false, ne_eqb, eq-eqb, and_right}, Bool.Decides.{nat_tests}}
+use Rattle.oc_base.specs.{declared.format.Word.{Word}, declared.format.Word.TheVariants.{W32, W64}}
+use Rattle.oc_linking.specs.{declared.terms.Mark.TheVariants.{NoType}, declared.terms.Visibility.{Visibility}}
+use Rattle.oc_linking.specs.{declared.terms.Visibility.TheVariants.{Default, Internal, Hidden, Protected}, declared.terms.Value.{Value}}
+use Rattle.oc_linking.specs.{declared.terms.Fallback.{Fallback}, declared.terms.Binding.{Binding}}
+use Rattle.oc_linking.specs.{declared.terms.Binding.TheVariants.{Local, Global, Undefined, Common, Weak}, Keeping.{all}}
 use Rattle.oc_linking.specs.declared.terms.Value.TheVariants as value
-use Rattle.oc_linking.specs.declared.terms.Fallback.{Fallback}
 use Rattle.oc_linking.specs.declared.terms.Fallback.TheVariants as fallback
-use Rattle.oc_linking.specs.declared.terms.Binding.{Binding}
-use Rattle.oc_linking.specs.declared.terms.Binding.TheVariants.{Local, Global, Undefined, Common, Weak}
-use Rattle.oc_linking.specs.Keeping.{all}
 use Rattle.oc_linking.specs.Parts as parts
-use Rattle.oc_neutral.specs.declared.symbol.Symbol.{Symbol}
-use Rattle.oc_neutral.specs.Faces.{shown_fallback, shown_binding, shown_symbol}
-use Rattle.oc_neutral.specs.Invariants.{HasOffset, IsValue, IsBinding}
-use Rattle.oc_neutral.specs.KindRules.{has}
-use Rattle.oc_shows.specs.Manners.{mach_manner, mach_vis, hidden}
-use Rattle.oc_neutral.specs.Mach.SectionSymbols.{is_start_named, section_symbol_name}
-use Rattle.oc_target.specs.Meets.{IsPower}
-use Rattle.oc_neutral.specs.Objects.{Object}
-use Rattle.oc_shows.specs.Seen.{seen_fallback, seen_binding, seen_symbol}
+use Rattle.oc_neutral.specs.{declared.symbol.Symbol.{Symbol}, Faces.{shown_fallback, shown_binding, shown_symbol}, Invariants.{HasOffset, IsValue, IsBinding}}
+use Rattle.oc_neutral.specs.{KindRules.{has}, Mach.SectionSymbols.{is_start_named, section_symbol_name}, Objects.{Object}}
 use Rattle.oc_neutral.specs.WrittenSymbols.{is_written, is_written_as}
+use Rattle.oc_shows.specs.{Manners.{mach_manner, mach_vis, hidden}, Seen.{seen_fallback, seen_binding, seen_symbol}}
+use Rattle.oc_target.specs.Meets.{IsPower}
 use Rattle.oc_neutral.proofs.Positions.{there_at}
 use Rattle.oc_shelf.specs.Writing.Parts.{laid, behind}
 use Rattle.oc_shelf.proofs.WritingLaws.MemberLemmas.{filter_map-results}
-use Rattle.oc_macho.specs.declared.constants.TheConstants.{N_SECT, N_PEXT}
-use Rattle.oc_macho.specs.declared.section_header.SectionHeader.{SectionHeader}
-use Rattle.oc_macho.specs.declared.nlist.Nlist.{Nlist}
-use Rattle.oc_macho.specs.MachHeader.{mach_format}
-use Rattle.oc_macho.specs.Tables.{Tables}
-use Rattle.oc_macho.specs.Sections.{header_numbered}
+use Rattle.oc_macho.specs.{declared.constants.TheConstants.{N_SECT, N_PEXT}, declared.section_header.SectionHeader.{SectionHeader}}
+use Rattle.oc_macho.specs.{declared.nlist.Nlist.{Nlist}, MachHeader.{mach_format}, Tables.{Tables}, Sections.{header_numbered}}
 use Rattle.oc_macho.specs.Symbols.{name_of, is_stab, is_type, is_external, offset_of, is_at_start, is_own_in, is_own, is_carried, value_of, binding_of, symbol_of, symbols_by}
-use Rattle.oc_macho.specs.Entries.{is_pinned}
-use Rattle.oc_macho.specs.SymbolFaults.{is_odd, is_outside}
-use Rattle.oc_macho.specs.Rules.{symbols_in}
-use Rattle.oc_macho_file.specs.Addresses.{address_of}
-use Rattle.oc_macho_file.specs.Lines.{Line, OwnLine, LocalLine, OuterLine, lines_of, line_size, numbered_lines}
+use Rattle.oc_macho.specs.{Entries.{is_pinned}, SymbolFaults.{is_odd, is_outside}, Rules.{symbols_in}}
+use Rattle.oc_macho_file.specs.{Addresses.{address_of}, Lines.{Line, OwnLine, LocalLine, OuterLine, lines_of, line_size, numbered_lines}}
 use Rattle.oc_macho_file.specs.Layout.{line_names, offset_in}
 use Rattle.oc_macho_file.specs.Symbols.{exponent_of, ValueFields, value_fields_by, value_fields_of, external_flag, private_flag, desc_by, line_entry}
 use Rattle.oc_macho_file.specs.Canonical.{section_header}
-use Rattle.oc_macho_file.proofs.TableLaws.{made_tables}
-use Rattle.oc_macho_file.proofs.CodedLaws.{IsForMach, IsPlaced, symbol_is, named, fallback_is, exponent_low, power_back}
-use Rattle.oc_macho_file.proofs.LineLaws.{IsLine, line_at}
-use Rattle.oc_macho_file.proofs.NameLaws.{line_named, needed_low}
-use Rattle.oc_macho_file.proofs.SectionLaws.{header_made, address_made}
-use Rattle.oc_macho_file.proofs.SeenLaws.{shown, syms, seen_line, symbols_seen}
-use Rattle.oc_macho_file.proofs.PinLaws.{IsOfObject, unpinned}
-use Rattle.oc_macho_file.proofs.AimLaws.{own_is}
+use Rattle.oc_macho_file.proofs.{TableLaws.{made_tables}, CodedLaws.{IsForMach, IsPlaced, symbol_is, named, fallback_is, exponent_low, power_back}}
+use Rattle.oc_macho_file.proofs.{LineLaws.{IsLine, line_at}, NameLaws.{line_named, needed_low}, SectionLaws.{header_made, address_made}}
+use Rattle.oc_macho_file.proofs.{SeenLaws.{shown, syms, seen_line, symbols_seen}, PinLaws.{IsOfObject, unpinned}, AimLaws.{own_is}}
 
 -- a name with bytes is not the empty one
 pub some_name : (name : List ℕ) → 1 ≤ length name → bytes_eq name [] ≡ false

@@ -1,39 +1,22 @@
 -- The structures of a canonical file are read back: they are those of which it was made.
 use Rattle.std.proofs.Common.{◌≡◌, ℕ, ◌+◌, Bool, true, false, cond, List, [], ◌∷◌, length, map, take, drop, Option, Some, None, refl, sym, ◌∙◌, ap, subst, arith}
-use Rattle.std.specs.Prelude.{slice_get, nat_eq, flat_map}
-use Rattle.std.specs.List.{enumerate_from}
-use Rattle.std.specs.Option.{option_map, option_map_or}
+use Rattle.std.specs.{Prelude.{slice_get, nat_eq, flat_map}, List.{enumerate_from}, Option.{option_map, option_map_or}}
 use Rattle.std.proofs.lemmas.Bool.{ne_eqb}
-use Rattle.oc_base.specs.declared.format.Word.{Word}
-use Rattle.oc_base.specs.declared.format.Word.TheVariants.{W32, W64}
+use Rattle.oc_base.specs.{declared.format.Word.{Word}, declared.format.Word.TheVariants.{W32, W64}}
 use Rattle.oc_linking.specs.Numbers.{or_else}
-use Rattle.oc_neutral.specs.declared.section.Section.{Section}
-use Rattle.oc_neutral.specs.Mach.Kinds.{is_zerofill_tag}
-use Rattle.oc_neutral.specs.Objects.{Object}
-use Rattle.oc_shelf.specs.Reading.Rows.{rows}
-use Rattle.oc_shelf.specs.Writing.Packed.{packed}
-use Rattle.oc_shelf.specs.Writing.Parts.{Stands}
-use Rattle.oc_shelf.proofs.WritingLaws.MemberLemmas.{map-map, map-alike, of_map, of_enumerated}
-use Rattle.oc_shelf.proofs.WritingLaws.PackedLemmas.{Fit, number_in}
+use Rattle.oc_neutral.specs.{declared.section.Section.{Section}, Mach.Kinds.{is_zerofill_tag}, Objects.{Object}}
+use Rattle.oc_shelf.specs.{Reading.Rows.{rows}, Writing.Packed.{packed}, Writing.Parts.{Stands}}
+use Rattle.oc_shelf.proofs.{WritingLaws.MemberLemmas.{map-map, map-alike, of_map, of_enumerated}, WritingLaws.PackedLemmas.{Fit, number_in}}
 use Rattle.oc_shelf.proofs.WritingLaws.StandingLemmas.{stands_take, rows_read}
-use Rattle.oc_macho.specs.declared.mach_header.MachHeader.{MachHeader}
-use Rattle.oc_macho.specs.declared.load_command.LoadCommand.{LoadCommand}
-use Rattle.oc_macho.specs.declared.section_header.SectionHeader.{SectionHeader}
-use Rattle.oc_macho.specs.declared.symtab_command.SymtabCommand.{SymtabCommand}
-use Rattle.oc_macho.specs.declared.nlist.Nlist.{Nlist}
-use Rattle.oc_macho.specs.declared.relocation_info.RelocationInfo.{RelocationInfo}
-use Rattle.oc_macho.specs.MachHeader.{mach_header_size, mach_header_of}
-use Rattle.oc_macho.specs.LoadCommand.{load_command_at}
-use Rattle.oc_macho.specs.SegmentCommand.{segment_number, segment_command_size, segment_command_at}
-use Rattle.oc_macho.specs.SectionHeader.{section_header_size, section_header_at}
-use Rattle.oc_macho.specs.SymtabCommand.{symtab_command_at}
-use Rattle.oc_macho.specs.Nlist.{nlist_size, nlist_at}
-use Rattle.oc_macho.specs.RelocationInfo.{relocation_info_at}
+use Rattle.oc_macho.specs.{declared.mach_header.MachHeader.{MachHeader}, declared.load_command.LoadCommand.{LoadCommand}}
+use Rattle.oc_macho.specs.{declared.section_header.SectionHeader.{SectionHeader}, declared.symtab_command.SymtabCommand.{SymtabCommand}}
+use Rattle.oc_macho.specs.{declared.nlist.Nlist.{Nlist}, declared.relocation_info.RelocationInfo.{RelocationInfo}}
+use Rattle.oc_macho.specs.{MachHeader.{mach_header_size, mach_header_of}, LoadCommand.{load_command_at}}
+use Rattle.oc_macho.specs.{SegmentCommand.{segment_number, segment_command_size, segment_command_at}, SectionHeader.{section_header_size, section_header_at}}
+use Rattle.oc_macho.specs.{SymtabCommand.{symtab_command_at}, Nlist.{nlist_size, nlist_at}, RelocationInfo.{relocation_info_at}}
 use Rattle.oc_macho.specs.Tables.{SectionTable, Tables, command_count, command_place, first_command, segment_place, symtab_place, headers_place, sections_by, symbols_by, strings_by, symtab_of, section_table, tables_of}
 use Rattle.oc_macho.specs.Structures.{mach_header_numbers, symtab_numbers, symtab_bytes, section_numbers, section_bytes, nlist_numbers, nlist_bytes, relocation_bytes}
-use Rattle.oc_macho_file.specs.Addresses.{Numbered, is_blank}
-use Rattle.oc_macho_file.specs.Lines.{Line, lines_of}
-use Rattle.oc_macho_file.specs.Bodies.{raw_of}
+use Rattle.oc_macho_file.specs.{Addresses.{Numbered, is_blank}, Lines.{Line, lines_of}, Bodies.{raw_of}}
 use Rattle.oc_macho_file.specs.Layout.{segment_length, relocs_of, string_table, part_where, is_raw, is_relocs, is_symbol_table, is_string_table}
 use Rattle.oc_macho_file.specs.Symbols.{line_entry}
 use Rattle.oc_macho_file.specs.Canonical.{file_header, segment_numbers, pointer_to, section_header, section_headers, symtab_command, dysymtab_numbers, mach_file}

@@ -1,47 +1,23 @@
 -- The targets of a canonical file are those of its object.
 use Rattle.std.proofs.Common.{◌≡◌, ℕ, ◌+◌, ◌-◌, ◌%◌, false, cond, List, [], Some, None, refl, sym, ◌∙◌, ap, arith}
-use Rattle.std.specs.Prelude.{slice_get}
-use Rattle.std.specs.Option.{option_map, option_and_then, unwrap_or}
+use Rattle.std.specs.{Prelude.{slice_get}, Option.{option_map, option_and_then, unwrap_or}}
 use Rattle.std.proofs.lemmas.Bool.{true≢false}
-use Rattle.oc_base.specs.declared.format.Word.{Word}
-use Rattle.oc_base.specs.declared.format.Word.TheVariants.{W32, W64}
-use Rattle.oc_linking.specs.declared.terms.Base.{Base}
-use Rattle.oc_linking.specs.declared.terms.Base.TheVariants as base
-use Rattle.oc_linking.specs.Keeping.{all}
-use Rattle.oc_linking.specs.Numbers.{modulus}
-use Rattle.oc_linking.specs.Parts as parts
-use Rattle.oc_linking.specs.Parts.{is_local}
-use Rattle.oc_linking.specs.Placing.{Placement}
-use Rattle.oc_linking.specs.Targets as file
-use Rattle.oc_linking.specs.Targets.{symbol_target}
+use Rattle.oc_base.specs.{declared.format.Word.{Word}, declared.format.Word.TheVariants.{W32, W64}}
+use Rattle.oc_linking.specs.{declared.terms.Base.{Base}, Keeping.{all}, Numbers.{modulus}, Parts.{is_local}, Placing.{Placement}, Targets.{symbol_target}}
 use Rattle.oc_linking.specs.Values.{Valuation}
-use Rattle.oc_neutral.specs.declared.symbol.Symbol.{Symbol}
-use Rattle.oc_neutral.specs.declared.reloc.Target.{Target}
+use Rattle.oc_linking.specs.declared.terms.Base.TheVariants as base
+use Rattle.oc_linking.specs.Parts as parts
+use Rattle.oc_linking.specs.Targets as file
+use Rattle.oc_neutral.specs.{declared.symbol.Symbol.{Symbol}, declared.reloc.Target.{Target}, Dialects.{Dialect}, Faces.{shown_symbol, shown_symbols}}
+use Rattle.oc_neutral.specs.{Normal.{place_among}, Objects.{Object}, Worth.{base_of, target_worth}}
 use Rattle.oc_neutral.specs.declared.reloc.Target.TheVariants as target
-use Rattle.oc_shows.specs.Built.{named_in}
-use Rattle.oc_neutral.specs.Dialects.{Dialect}
-use Rattle.oc_neutral.specs.Faces.{shown_symbol, shown_symbols}
-use Rattle.oc_shows.specs.Manners.{mach_manner}
-use Rattle.oc_neutral.specs.Normal.{place_among}
-use Rattle.oc_neutral.specs.Objects.{Object}
-use Rattle.oc_shows.specs.RowFields.{place_target}
-use Rattle.oc_shows.specs.Seen.{seen_symbol, new_position}
-use Rattle.oc_shows.specs.Shows.{IsTrueToFixed}
-use Rattle.oc_neutral.specs.Worth.{base_of, target_worth}
+use Rattle.oc_shows.specs.{Built.{named_in}, Manners.{mach_manner}, RowFields.{place_target}, Seen.{seen_symbol, new_position}, Shows.{IsTrueToFixed}}
 use Rattle.oc_made_files.proofs.MadeLaws.{numbered_target, named_by_symbol, outer_aimed}
 use Rattle.oc_macho.specs.declared.relocation_info.Reference.TheVariants as reference
-use Rattle.oc_macho.specs.Tables.{Tables}
-use Rattle.oc_macho.specs.Symbols.{name_of, symbol_of}
-use Rattle.oc_macho.specs.Aims.{fixed_place, symbol_aim, section_aim, aim_of, aim_in}
-use Rattle.oc_macho_file.specs.Lines.{OuterLine, lines_of, numbered_lines, symbol_number}
-use Rattle.oc_macho_file.specs.Symbols.{line_entry}
-use Rattle.oc_macho_file.proofs.TableLaws.{made_tables}
-use Rattle.oc_macho_file.proofs.CodedLaws.{IsForMach}
-use Rattle.oc_macho_file.proofs.LineLaws.{symbol_found}
-use Rattle.oc_macho_file.proofs.NameLaws.{line_named}
-use Rattle.oc_macho_file.proofs.SeenLaws.{shown, again, syms, seen_there}
-use Rattle.oc_macho_file.proofs.AimLaws.{entry_there}
-use Rattle.oc_macho_file.proofs.SymbolLaws.{entry_with, made_symbol, symbol_made, not_own}
+use Rattle.oc_macho.specs.{Tables.{Tables}, Symbols.{name_of, symbol_of}, Aims.{fixed_place, symbol_aim, section_aim, aim_of, aim_in}}
+use Rattle.oc_macho_file.specs.{Lines.{OuterLine, lines_of, numbered_lines, symbol_number}, Symbols.{line_entry}}
+use Rattle.oc_macho_file.proofs.{TableLaws.{made_tables}, CodedLaws.{IsForMach}, LineLaws.{symbol_found}, NameLaws.{line_named}}
+use Rattle.oc_macho_file.proofs.{SeenLaws.{shown, again, syms, seen_there}, AimLaws.{entry_there}, SymbolLaws.{entry_with, made_symbol, symbol_made, not_own}}
 
 -- a target of the object that is seen is that of the file, whose base is known up to multiples of the modulus
 pub record IsAimedAt (w : Word) (f : Dialect) (b : List ℕ) (n : Object) (t : Target) (u : file.Target) : Type 0 where

@@ -1,27 +1,15 @@
 -- The canonical file of an object that is ready for Mach-O is well formed and shows the object that is seen.
 use Rattle.std.proofs.Common.{◌≡◌, List, ◌∷◌, ℕ, None, refl, sym, subst}
 use Rattle.std.specs.List.{AllByRecursion}
-use Rattle.oc_base.specs.declared.format.Word.{Word}
-use Rattle.oc_base.specs.declared.format.Word.TheVariants.{W32, W64}
+use Rattle.oc_base.specs.{declared.format.Word.{Word}, declared.format.Word.TheVariants.{W32, W64}}
 use Rattle.oc_linking.specs.Keeping.{all}
-use Rattle.oc_neutral.specs.Objects.{Object}
-use Rattle.oc_neutral.specs.Dialects.{IsDialect}
+use Rattle.oc_neutral.specs.{Objects.{Object}, Dialects.{IsDialect}}
 use Rattle.oc_shelf.proofs.ReadingLaws.StageLemmas.{IsUnbroken, no_first_fault}
-use Rattle.oc_macho.specs.HeaderFaults.{header_stage}
-use Rattle.oc_macho.specs.Rules.{rest_stages, fault_of, mach_dialect}
-use Rattle.oc_macho.specs.Tables.{Tables, tables_of}
-use Rattle.oc_macho_file.specs.Canonical.{mach_file}
-use Rattle.oc_macho_file.specs.Writing.{MachIsWritten}
-use Rattle.oc_macho_file.proofs.TableLaws.{IsCodable, made_tables, tables_read}
-use Rattle.oc_macho_file.proofs.CodedLaws.{IsForMach, for_mach}
-use Rattle.oc_macho_file.proofs.CountLaws.{few_lines}
-use Rattle.oc_macho_file.proofs.FileSize.{small_file}
-use Rattle.oc_macho_file.proofs.CodableLaws.{has_numbers}
-use Rattle.oc_macho_file.proofs.ShowsLaw.{mach_shows}
-use Rattle.oc_macho_file.proofs.HeaderClean.{header_clean}
-use Rattle.oc_macho_file.proofs.SectionClean.{sections_clean}
-use Rattle.oc_macho_file.proofs.SymbolClean.{symbols_clean}
-use Rattle.oc_macho_file.proofs.RelocationClean.{relocations_clean}
+use Rattle.oc_macho.specs.{HeaderFaults.{header_stage}, Rules.{rest_stages, fault_of, mach_dialect}, Tables.{Tables, tables_of}}
+use Rattle.oc_macho_file.specs.{Canonical.{mach_file}, Writing.{MachIsWritten}}
+use Rattle.oc_macho_file.proofs.{TableLaws.{IsCodable, made_tables, tables_read}, CodedLaws.{IsForMach, for_mach}, CountLaws.{few_lines}, FileSize.{small_file}}
+use Rattle.oc_macho_file.proofs.{CodableLaws.{has_numbers}, ShowsLaw.{mach_shows}, HeaderClean.{header_clean}, SectionClean.{sections_clean}}
+use Rattle.oc_macho_file.proofs.{SymbolClean.{symbols_clean}, RelocationClean.{relocations_clean}}
 
 -- the rules of Mach-O have the word and the alignments of its format
 pub mach_is_dialect : (w : Word) → IsDialect (mach_dialect w)

@@ -1,9 +1,6 @@
 -- The addresses that an output gives to its sections (our profile): from 0 on, those with bytes in the file, and after them those without.
-use Rattle.std.specs.Prelude.{ℕ, Bool, not, nat_eq, List, ◌++◌}
-use Rattle.std.specs.List.{enumerate_from, filter}
-use Rattle.oc_neutral.specs.declared.section.Section.{Section}
-use Rattle.oc_neutral.specs.Building.{is_zero}
-use Rattle.oc_neutral.specs.Objects.{Object}
+use Rattle.std.specs.{Prelude.{ℕ, Bool, not, nat_eq, List, ◌++◌}, List.{enumerate_from, filter}}
+use Rattle.oc_neutral.specs.{declared.section.Section.{Section}, Building.{is_zero}, Objects.{Object}}
 use Rattle.oc_shelf.specs.Writing.Parts.{Laid, laid, laid_end, aligned, place_where}
 
 -- a section with its position

@@ -1,33 +1,20 @@
 -- The bytes and the relocation entries of an output's sections (Mach-O reference, "Relocation Data Structures"; our profile).
 use Rattle.std.specs.Prelude.{ℕ, ◌+◌, if◌then◌else◌, ℤ, pos, ◌+ℤ◌, List, [], ◌∷◌, flat_map, Option, Some, None, Result, Ok, Err}
 use Rattle.std.specs.Option.{option_map, option_map_or}
-use Rattle.oc_base.specs.declared.format.Word.{Word}
-use Rattle.oc_base.specs.declared.format.Word.TheVariants.{W32, W64}
-use Rattle.oc_linking.specs.declared.terms.Patch.{Patch}
-use Rattle.oc_linking.specs.Images.{overlay}
-use Rattle.oc_algebra.specs.declared.fields.AddendTooWide.{AddendTooWide}
-use Rattle.oc_algebra.specs.Fields.{to_field_of}
-use Rattle.oc_chains.specs.declared.field.Field.{Field}
-use Rattle.oc_chains.specs.Lists.{list_of}
-use Rattle.oc_neutral.specs.declared.section.Section.{Section}
-use Rattle.oc_neutral.specs.declared.reloc.Reloc.{Reloc}
-use Rattle.oc_neutral.specs.declared.reloc.Target.{Target}
-use Rattle.oc_neutral.specs.declared.reloc.Target.TheVariants as target
-use Rattle.oc_neutral.specs.Mach.Relocs.{length_of}
-use Rattle.oc_neutral.specs.Normal.{Place}
-use Rattle.oc_neutral.specs.Objects.{Object, reloc_at}
-use Rattle.oc_neutral.specs.Rows.{Row, TakesPlace, same_taken}
-use Rattle.oc_shows.specs.Seen.{place_at}
-use Rattle.oc_neutral.specs.Shifts.{EntryTarget, Symbolic, Sectional, entry_target_shift, sectdiff_shift, written_shift}
-use Rattle.oc_neutral.specs.Spelling.{written_row}
+use Rattle.oc_base.specs.{declared.format.Word.{Word}, declared.format.Word.TheVariants.{W32, W64}}
+use Rattle.oc_linking.specs.{declared.terms.Patch.{Patch}, Images.{overlay}}
+use Rattle.oc_algebra.specs.{declared.fields.AddendTooWide.{AddendTooWide}, Fields.{to_field_of}}
+use Rattle.oc_chains.specs.{declared.field.Field.{Field}, Lists.{list_of}}
+use Rattle.oc_neutral.specs.{declared.section.Section.{Section}, declared.reloc.Reloc.{Reloc}, declared.reloc.Target.{Target}, Mach.Relocs.{length_of}}
+use Rattle.oc_neutral.specs.{Normal.{Place}, Objects.{Object, reloc_at}, Rows.{Row, TakesPlace, same_taken}}
+use Rattle.oc_neutral.specs.{Shifts.{EntryTarget, Symbolic, Sectional, entry_target_shift, sectdiff_shift, written_shift}, Spelling.{written_row}}
 use Rattle.oc_neutral.specs.TargetRelocations.{section_taken}
+use Rattle.oc_neutral.specs.declared.reloc.Target.TheVariants as target
+use Rattle.oc_shows.specs.Seen.{place_at}
 use Rattle.oc_shelf.specs.Writing.Parts.{Laid}
-use Rattle.oc_macho.specs.declared.relocation_info.Reference.{Reference}
+use Rattle.oc_macho.specs.{declared.relocation_info.Reference.{Reference}, declared.relocation_info.RelocationInfo.{RelocationInfo}, MachHeader.{mach_format}}
 use Rattle.oc_macho.specs.declared.relocation_info.Reference.TheVariants as reference
-use Rattle.oc_macho.specs.declared.relocation_info.RelocationInfo.{RelocationInfo}
-use Rattle.oc_macho.specs.MachHeader.{mach_format}
-use Rattle.oc_macho_file.specs.Addresses.{address_of}
-use Rattle.oc_macho_file.specs.Lines.{Line, own_number, symbol_number}
+use Rattle.oc_macho_file.specs.{Addresses.{address_of}, Lines.{Line, own_number, symbol_number}}
 
 -- a relocation with its place, at an offset of the section at a position, and the row by which it is written
 pub record WrittenReloc : Type 0 where

@@ -1,23 +1,15 @@
 -- The canonical file of an object that is ready for Mach-O (Mach-O reference; our profile).
-use Rattle.std.specs.Prelude.{ℕ, ◌+◌, nat_eq, if◌then◌else◌, List, [], ◌∷◌, length, map, replicate, flat_map}
-use Rattle.std.specs.List.{enumerate_from}
+use Rattle.std.specs.{Prelude.{ℕ, ◌+◌, nat_eq, if◌then◌else◌, List, [], ◌∷◌, length, map, replicate, flat_map}, List.{enumerate_from}}
 use Rattle.oc_base.specs.declared.format.Word.{Word}
-use Rattle.oc_neutral.specs.Mach.Kinds.{segment_of, section_of}
-use Rattle.oc_neutral.specs.Objects.{Object}
-use Rattle.oc_shelf.specs.Writing.Packed.{packed}
-use Rattle.oc_shelf.specs.Writing.Parts.{joined}
-use Rattle.oc_macho.specs.declared.constants.TheConstants.{MH_OBJECT, LC_DYSYMTAB}
-use Rattle.oc_macho.specs.declared.load_command.TheConstants.{DYSYMTAB_COMMAND_SIZE}
-use Rattle.oc_macho.specs.declared.names.TheConstants.{NAME_SIZE}
-use Rattle.oc_macho.specs.declared.mach_header.MachHeader.{MachHeader}
-use Rattle.oc_macho.specs.declared.section_header.SectionHeader.{SectionHeader}
-use Rattle.oc_macho.specs.declared.symtab_command.SymtabCommand.{SymtabCommand}
-use Rattle.oc_macho.specs.MachHeader.{address_size, cpu_type}
-use Rattle.oc_macho.specs.SegmentCommand.{segment_number}
+use Rattle.oc_neutral.specs.{Mach.Kinds.{segment_of, section_of}, Objects.{Object}}
+use Rattle.oc_shelf.specs.{Writing.Packed.{packed}, Writing.Parts.{joined}}
+use Rattle.oc_macho.specs.{declared.constants.TheConstants.{MH_OBJECT, LC_DYSYMTAB}, declared.load_command.TheConstants.{DYSYMTAB_COMMAND_SIZE}}
+use Rattle.oc_macho.specs.{declared.names.TheConstants.{NAME_SIZE}, declared.mach_header.MachHeader.{MachHeader}}
+use Rattle.oc_macho.specs.{declared.section_header.SectionHeader.{SectionHeader}, declared.symtab_command.SymtabCommand.{SymtabCommand}}
+use Rattle.oc_macho.specs.{MachHeader.{address_size, cpu_type}, SegmentCommand.{segment_number}}
 use Rattle.oc_macho.specs.declared.constants.TheConstants.{COMMAND_COUNT, CPU_SUBTYPE_ALL, VM_PROT_ALL}
 use Rattle.oc_macho.specs.Structures.{magic_of, padded, mach_header_bytes, symtab_bytes, section_bytes, nlist_bytes, relocation_bytes}
-use Rattle.oc_macho_file.specs.Addresses.{Numbered, address_of, memory_end, stored_end}
-use Rattle.oc_macho_file.specs.Lines.{Line, inner_lines, defined_lines, undefined_lines, lines_of}
+use Rattle.oc_macho_file.specs.{Addresses.{Numbered, address_of, memory_end, stored_end}, Lines.{Line, inner_lines, defined_lines, undefined_lines, lines_of}}
 use Rattle.oc_macho_file.specs.Bodies.{raw_of}
 use Rattle.oc_macho_file.specs.Layout.{Part, FileHead, SegmentHead, SectionHeads, SymtabHead, DysymtabHead, Raw, Relocs, SymbolTable, StringTable, segment_length, commands_length, contents_begin, relocs_of, string_table, laid_parts, part_where, is_raw, is_relocs, is_symbol_table, is_string_table}
 use Rattle.oc_macho_file.specs.Symbols.{exponent_of, line_entry}

@@ -1,23 +1,14 @@
 -- The parts of an output, their sizes and places, from counts alone (our profile).
-use Rattle.std.specs.Prelude.{ℕ, ◌+◌, ◌-◌, ◌*◌, Bool, true, false, nat_eq, if◌then◌else◌, List, [], ◌∷◌, ◌++◌, length, map, replicate}
-use Rattle.std.specs.List.{enumerate_from}
+use Rattle.std.specs.{Prelude.{ℕ, ◌+◌, ◌-◌, ◌*◌, Bool, true, false, nat_eq, if◌then◌else◌, List, [], ◌∷◌, ◌++◌, length, map, replicate}, List.{enumerate_from}}
 use Rattle.std.specs.Option.{unwrap_or}
-use Rattle.oc_base.specs.declared.format.Word.{Word}
-use Rattle.oc_base.specs.Strings.{table_text, table_place}
-use Rattle.oc_neutral.specs.declared.section.Section.{Section}
-use Rattle.oc_neutral.specs.Objects.{Object}
+use Rattle.oc_base.specs.{declared.format.Word.{Word}, Strings.{table_text, table_place}}
+use Rattle.oc_neutral.specs.{declared.section.Section.{Section}, Objects.{Object}}
 use Rattle.oc_shelf.specs.Writing.Parts.{Laid, laid, aligned, place_where}
-use Rattle.oc_macho.specs.declared.load_command.TheConstants.{DYSYMTAB_COMMAND_SIZE}
-use Rattle.oc_macho.specs.declared.symtab_command.TheConstants.{SYMTAB_COMMAND_SIZE}
-use Rattle.oc_macho.specs.declared.relocation_info.TheConstants.{RELOCATION_INFO_SIZE}
-use Rattle.oc_macho.specs.declared.relocation_info.RelocationInfo.{RelocationInfo}
-use Rattle.oc_macho.specs.MachHeader.{address_size, mach_header_size}
-use Rattle.oc_macho.specs.SegmentCommand.{segment_command_size}
-use Rattle.oc_macho.specs.SectionHeader.{section_header_size}
+use Rattle.oc_macho.specs.{declared.load_command.TheConstants.{DYSYMTAB_COMMAND_SIZE}, declared.symtab_command.TheConstants.{SYMTAB_COMMAND_SIZE}}
+use Rattle.oc_macho.specs.{declared.relocation_info.TheConstants.{RELOCATION_INFO_SIZE}, declared.relocation_info.RelocationInfo.{RelocationInfo}}
+use Rattle.oc_macho.specs.{MachHeader.{address_size, mach_header_size}, SegmentCommand.{segment_command_size}, SectionHeader.{section_header_size}}
 use Rattle.oc_macho.specs.Nlist.{nlist_size}
-use Rattle.oc_macho_file.specs.Addresses.{Numbered, stored_sections}
-use Rattle.oc_macho_file.specs.Lines.{lines_of, numbered_lines, line_name}
-use Rattle.oc_macho_file.specs.Bodies.{entries_of}
+use Rattle.oc_macho_file.specs.{Addresses.{Numbered, stored_sections}, Lines.{lines_of, numbered_lines, line_name}, Bodies.{entries_of}}
 
 -- a part of the file: the file header, the three load commands, the first with the section headers after it, the bytes and the relocation entries of
 -- a section by its position, the symbols, and the strings

@@ -1,16 +1,10 @@
 -- The symbol table of an output: what is in it, in its order, and with which numbers (Mach-O reference, "nlist" and "dysymtab_command"; our profile).
-use Rattle.std.specs.Prelude.{ℕ, ◌+◌, Bool, false, ◌&&◌, nat_eq, List, [], ◌++◌, map}
-use Rattle.std.specs.List.{enumerate_from, filter}
-use Rattle.oc_base.specs.declared.format.Word.{Word}
-use Rattle.oc_base.specs.declared.format.Word.TheVariants.{W32, W64}
+use Rattle.std.specs.{Prelude.{ℕ, ◌+◌, Bool, false, ◌&&◌, nat_eq, List, [], ◌++◌, map}, List.{enumerate_from, filter}}
+use Rattle.oc_base.specs.{declared.format.Word.{Word}, declared.format.Word.TheVariants.{W32, W64}}
 use Rattle.oc_linking.specs.Parts.{is_local}
-use Rattle.oc_neutral.specs.declared.symbol.Symbol.{Symbol}
-use Rattle.oc_neutral.specs.Bindings.{is_zero}
-use Rattle.oc_neutral.specs.Dressing.{is_common}
-use Rattle.oc_neutral.specs.Mach.SectionSymbols.{section_symbol_name, needed_sections}
-use Rattle.oc_neutral.specs.Objects.{Object}
+use Rattle.oc_neutral.specs.{declared.symbol.Symbol.{Symbol}, Bindings.{is_zero}, Dressing.{is_common}}
+use Rattle.oc_neutral.specs.{Mach.SectionSymbols.{section_symbol_name, needed_sections}, Objects.{Object}, WrittenSymbols.{is_written}}
 use Rattle.oc_shows.specs.SymbolLines.{is_defined, is_undefined, is_weak_with}
-use Rattle.oc_neutral.specs.WrittenSymbols.{is_written}
 use Rattle.oc_shelf.specs.Writing.Parts.{Laid, laid, behind, place_where}
 
 -- an entry: the symbol `l_section_k` of a section, a Local, or a symbol that is not Local; each by its position in the object

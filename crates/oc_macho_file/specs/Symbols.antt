@@ -1,28 +1,16 @@
 -- The entries of an output's symbol table (Mach-O reference, "nlist"; our profile).
-use Rattle.std.specs.Prelude.{ℕ, ◌+◌, ◌*◌, ◌^◌, nat_eq, if◌then◌else◌}
-use Rattle.std.specs.Option.{option_map_or, unwrap_or}
+use Rattle.std.specs.{Prelude.{ℕ, ◌+◌, ◌*◌, ◌^◌, nat_eq, if◌then◌else◌}, Option.{option_map_or, unwrap_or}}
 use Rattle.oc_base.specs.declared.format.Word.{Word}
-use Rattle.oc_linking.specs.declared.terms.Visibility.{Visibility}
-use Rattle.oc_linking.specs.declared.terms.Visibility.TheVariants.{Default, Internal, Hidden, Protected}
-use Rattle.oc_linking.specs.declared.terms.Value.{Value}
+use Rattle.oc_linking.specs.{declared.terms.Visibility.{Visibility}, declared.terms.Visibility.TheVariants.{Default, Internal, Hidden, Protected}}
+use Rattle.oc_linking.specs.{declared.terms.Value.{Value}, declared.terms.Fallback.{Fallback}, declared.terms.Binding.{Binding}}
+use Rattle.oc_linking.specs.{declared.terms.Binding.TheVariants.{Local, Global, Undefined, Common, Weak}, Numbers.{first_from}}
 use Rattle.oc_linking.specs.declared.terms.Value.TheVariants as value
-use Rattle.oc_linking.specs.declared.terms.Fallback.{Fallback}
 use Rattle.oc_linking.specs.declared.terms.Fallback.TheVariants as fallback
-use Rattle.oc_linking.specs.declared.terms.Binding.{Binding}
-use Rattle.oc_linking.specs.declared.terms.Binding.TheVariants.{Local, Global, Undefined, Common, Weak}
-use Rattle.oc_linking.specs.Numbers.{first_from}
-use Rattle.oc_neutral.specs.declared.symbol.Symbol.{Symbol}
-use Rattle.oc_neutral.specs.Bindings.{is_zero}
-use Rattle.oc_shows.specs.Manners.{mach_vis}
-use Rattle.oc_neutral.specs.Mach.SectionSymbols.{section_symbol_name}
-use Rattle.oc_neutral.specs.Normal.{Place}
-use Rattle.oc_neutral.specs.Objects.{Object}
-use Rattle.oc_shows.specs.Seen.{place_at}
+use Rattle.oc_neutral.specs.{declared.symbol.Symbol.{Symbol}, Bindings.{is_zero}, Mach.SectionSymbols.{section_symbol_name}, Normal.{Place}, Objects.{Object}}
+use Rattle.oc_shows.specs.{Manners.{mach_vis}, Seen.{place_at}}
 use Rattle.oc_macho.specs.declared.constants.TheConstants.{MOST_ALIGN_EXPONENT, N_UNDF, N_ABS, N_SECT, N_EXT, N_PEXT, N_WEAK_REF, N_WEAK_DEF}
 use Rattle.oc_macho.specs.declared.nlist.Nlist.{Nlist}
-use Rattle.oc_macho_file.specs.Addresses.{address_of}
-use Rattle.oc_macho_file.specs.Lines.{Line, OwnLine, LocalLine, OuterLine}
-use Rattle.oc_macho_file.specs.Layout.{line_names, offset_in}
+use Rattle.oc_macho_file.specs.{Addresses.{address_of}, Lines.{Line, OwnLine, LocalLine, OuterLine}, Layout.{line_names, offset_in}}
 
 -- the exponent of an alignment, a power of two
 unfoldable pub exponent_of : ℕ → ℕ

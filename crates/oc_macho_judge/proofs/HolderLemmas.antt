@@ -1,29 +1,19 @@
 -- Which section holds an address, as it is looked up.
 use Rattle.std.proofs.Common.{◌≡◌, ℕ, zero, suc, ◌+◌, ◌-◌, ◌^◌, ◌<◌, ◌≤◌, inl, inr, ◌⊎◌, Bool, true, false, cond, eqb, List, [], ◌∷◌, length, get_or, Option, None, Some, refl, sym, ◌∙◌, ap, subst, arith, zero-add}
-use Rattle.std.specs.Prelude.{not, ◌&&◌, ◌||◌, nat_eq, nat_le, nat_lt, is_none, is_some, find, slice_index_or, IfSome}
-use Rattle.std.specs.Cmp.{eq_by_cmp_equiv, nat_cmp_total}
+use Rattle.std.specs.{Prelude.{not, ◌&&◌, ◌||◌, nat_eq, nat_le, nat_lt, is_none, is_some, find, slice_index_or, IfSome}, Cmp.{eq_by_cmp_equiv, nat_cmp_total}}
 use Rattle.std.specs.List.{All, AllByRecursion, Any, Contains, cons_option, enumerate_from, filter_map}
-use Rattle.std.proofs.lemmas.List.{get_or-map, length-map}
-use Rattle.std.specs.List.Sorted.{IsNonDecreasingBy, IsPartitionPoint, IsStrictlySortedBy}
-use Rattle.std.specs.Map.{keys_of}
-use Rattle.std.specs.Option.{option_map}
-use Rattle.std.specs.Ordering.{is_eq, nat_cmp}
+use Rattle.std.specs.{List.Sorted.{IsNonDecreasingBy, IsPartitionPoint, IsStrictlySortedBy}, Map.{keys_of}, Option.{option_map}, Ordering.{is_eq, nat_cmp}}
 use Rattle.std.specs.declared.cmp.Ordering.TheVariants.{Less}
-use Rattle.std.proofs.lemmas.Bool.{cases_eq, cases_lt, eq-eqb, ne_eqb, true≢false}
-use Rattle.std.proofs.lemmas.Bool.Decides.{nat_tests}
+use Rattle.std.proofs.lemmas.{List.{get_or-map, length-map}, Bool.{cases_eq, cases_lt, eq-eqb, ne_eqb, true≢false}, Bool.Decides.{nat_tests}}
 use Rattle.std.proofs.lemmas.List.Elements.{All-cons, All-contains, All-contains_itself, All-from_get_or, All-head, All-nil, All-tail, All-weaker, Contains-get_or}
-use Rattle.std.proofs.lemmas.Map.Keys.{IsDistinct-from_sorted, sorted_head, sorted_tail}
-use Rattle.std.proofs.lemmas.Map.Views.{lookup-from_Contains}
-use Rattle.std.proofs.lemmas.Option.{none-some}
+use Rattle.std.proofs.lemmas.{Map.Keys.{IsDistinct-from_sorted, sorted_head, sorted_tail}, Map.Views.{lookup-from_Contains}, Option.{none-some}}
 use Rattle.oc_linking.specs.Numbers.{first_upto, or_else}
 use Rattle.oc_linking.proofs.FirstFaultLaws.{first_upto_none}
 use Rattle.oc_shelf.proofs.ReadingLaws.StageLemmas.{first_upto-head, first_upto-same, upto_none}
 use Rattle.oc_macho_judge.specs.declared.holders.Edge.{Edge}
-use Rattle.oc_macho.specs.declared.section_header.SectionHeader.{SectionHeader}
-use Rattle.oc_macho.specs.Tables.{SectionTable, Tables}
-use Rattle.oc_macho.specs.Sections.{holder_of, lies_at, lies_in}
-use Rattle.oc_macho.specs.Framed.{no_header, table_at}
 use Rattle.oc_macho_judge.specs.Holders.{AreEdges, AreHolders, AreInOrder, IsAbove, IsEdgeOf, IsLastUpto, edge_of, first_among, has_byte, holder_by, is_edge, number_by, places_of}
+use Rattle.oc_macho.specs.{declared.section_header.SectionHeader.{SectionHeader}, Tables.{SectionTable, Tables}, Sections.{holder_of, lies_at, lies_in}}
+use Rattle.oc_macho.specs.Framed.{no_header, table_at}
 
 -- ... by what is searched
 

@@ -1,23 +1,13 @@
 -- The stages of a file, one behind another.
 use Rattle.std.proofs.Common.{◌≡◌, ℕ, ◌+◌, ◌*◌, ◌<◌, ◌≤◌, Bool, true, false, cond, List, ◌∷◌, length, Option, None, Some, refl, sym, ◌∙◌, ap, arith}
-use Rattle.std.specs.Prelude.{not, ◌&&◌, nat_lt}
-use Rattle.std.specs.Option.{option_map_or}
-use Rattle.std.proofs.lemmas.Bool.{true≢false}
-use Rattle.std.proofs.lemmas.Bool.Decides.{nat_tests}
-use Rattle.std.proofs.lemmas.Option.{none-some}
-use Rattle.oc_base.specs.declared.format.Word.{Word}
-use Rattle.oc_base.specs.declared.fault.Fault.{Fault}
-use Rattle.oc_linking.specs.declared.terms.Keep.{Keep}
-use Rattle.oc_linking.specs.FirstFault.{first_broken, first_fault, stage_fault, fault_of}
-use Rattle.oc_linking.specs.Numbers.{or_else}
+use Rattle.std.specs.{Prelude.{not, ◌&&◌, nat_lt}, Option.{option_map_or}}
+use Rattle.std.proofs.lemmas.{Bool.{true≢false}, Bool.Decides.{nat_tests}, Option.{none-some}}
+use Rattle.oc_base.specs.{declared.format.Word.{Word}, declared.fault.Fault.{Fault}}
+use Rattle.oc_linking.specs.{declared.terms.Keep.{Keep}, FirstFault.{first_broken, first_fault, stage_fault, fault_of}, Numbers.{or_else}}
 use Rattle.oc_linking.proofs.FirstFaultLaws.{first_upto_none}
 use Rattle.oc_shelf.proofs.ReadingLaws.StageLemmas.{all_hold}
-use Rattle.oc_macho.specs.declared.section_header.SectionHeader.{SectionHeader}
-use Rattle.oc_macho.specs.Tables.{SectionTable, Tables, tables_of}
-use Rattle.oc_macho.specs.Sections.{is_kept, is_zerofill}
-use Rattle.oc_macho.specs.Framed.{table_at}
-use Rattle.oc_macho.specs.HeaderFaults.{header_stage}
-use Rattle.oc_macho.specs.SectionFaults.{own_conditions, limit_conditions, section_stage}
+use Rattle.oc_macho.specs.{declared.section_header.SectionHeader.{SectionHeader}, Tables.{SectionTable, Tables, tables_of}, Sections.{is_kept, is_zerofill}}
+use Rattle.oc_macho.specs.{Framed.{table_at}, HeaderFaults.{header_stage}, SectionFaults.{own_conditions, limit_conditions, section_stage}}
 use Rattle.oc_macho.specs.RelocationFaults.{entry_stage, no_stage, relocation_stage}
 use Rattle.oc_macho.specs.Rules as rules
 use Rattle.oc_macho_judge.proofs.SectionLemmas.{section_broken, there}

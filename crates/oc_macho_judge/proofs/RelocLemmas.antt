@@ -1,22 +1,15 @@
 -- The fields of a section, judged one after the other.
 use Rattle.std.proofs.Common.{◌≡◌, ℕ, ◌+◌, ◌*◌, ◌<◌, ◌≤◌, Bool, true, false, cond, List, [], Option, None, Some, refl, sym, ◌∙◌, ap, subst, arith}
-use Rattle.std.specs.Prelude.{◌||◌, length, nat_lt, slice_get}
-use Rattle.std.specs.Option.{option_map, option_map_or}
-use Rattle.std.proofs.lemmas.Bool.{true≢false}
-use Rattle.std.proofs.lemmas.Bool.Decides.{nat_tests}
+use Rattle.std.specs.{Prelude.{◌||◌, length, nat_lt, slice_get}, Option.{option_map, option_map_or}}
+use Rattle.std.proofs.lemmas.{Bool.{true≢false}, Bool.Decides.{nat_tests}}
 use Rattle.oc_base.specs.declared.format.Word.{Word}
-use Rattle.oc_linking.specs.FirstFault.{first_broken}
-use Rattle.oc_linking.specs.Numbers.{first_upto, or_else}
+use Rattle.oc_linking.specs.{FirstFault.{first_broken}, Numbers.{first_upto, or_else}}
 use Rattle.oc_shelf.specs.Reading.Bitmaps.{has, is_between, room}
-use Rattle.oc_shelf.proofs.ReadingLaws.BitmapLemmas.{bytes_more, bytes_none, bytes_same}
-use Rattle.oc_shelf.proofs.ReadingLaws.StageLemmas.{all_hold, broken_of_three}
-use Rattle.oc_macho.specs.declared.entries.Item.{Item}
-use Rattle.oc_macho.specs.Tables.{SectionTable, Tables}
-use Rattle.oc_macho_judge.specs.Judged.{AreTaken, entry_fault}
+use Rattle.oc_shelf.proofs.{ReadingLaws.BitmapLemmas.{bytes_more, bytes_none, bytes_same}, ReadingLaws.StageLemmas.{all_hold, broken_of_three}}
+use Rattle.oc_macho.specs.{declared.entries.Item.{Item}, Tables.{SectionTable, Tables}}
 use Rattle.oc_macho.specs.RelocationFaults.{entry_conditions, form_conditions, is_outside, item_conditions, last_conditions, refers_wrongly, span_at, span_of, stored_size, target_conditions}
-use Rattle.oc_macho.specs.Sections.{is_zerofill}
-use Rattle.oc_macho.specs.declared.relocation_info.RelocationInfo.{RelocationInfo}
-use Rattle.oc_macho.specs.Entries.{begins, is_first, item_at, item_with}
+use Rattle.oc_macho.specs.{Sections.{is_zerofill}, declared.relocation_info.RelocationInfo.{RelocationInfo}, Entries.{begins, is_first, item_at, item_with}}
+use Rattle.oc_macho_judge.specs.Judged.{AreTaken, entry_fault}
 
 -- the entries of the field that begins with an entry
 pub item_there : (w : Word) (entries : List RelocationInfo) (k : ℕ) (e : RelocationInfo) → begins w entries k ≡ true → slice_get entries k ≡ Some e

@@ -1,17 +1,13 @@
 -- Sections, judged one after the other, with the sums that they are worth.
 use Rattle.std.proofs.Common.{◌≡◌, ℕ, ◌+◌, ◌<◌, ◌≤◌, [], length, Option, None, Some, refl, sym, ◌∙◌, ap, arith}
-use Rattle.std.specs.Prelude.{slice_get}
-use Rattle.std.specs.Option.{option_map_or}
+use Rattle.std.specs.{Prelude.{slice_get}, Option.{option_map_or}}
 use Rattle.std.proofs.lemmas.Option.{slice_get-get_or}
-use Rattle.oc_linking.specs.FirstFault.{first_broken, fault_of}
-use Rattle.oc_linking.specs.Numbers.{first_upto, or_else}
+use Rattle.oc_linking.specs.{FirstFault.{first_broken, fault_of}, Numbers.{first_upto, or_else}}
 use Rattle.oc_shelf.specs.Reading.Sums.{sum_upto}
 use Rattle.oc_shelf.proofs.ReadingLaws.StageLemmas.{first_broken-append, sum_more}
-use Rattle.oc_macho.specs.declared.section_header.SectionHeader.{SectionHeader}
-use Rattle.oc_macho.specs.Tables.{SectionTable, Tables}
-use Rattle.oc_macho.specs.Framed.{no_header, table_at}
-use Rattle.oc_macho_judge.specs.Judged.{AreSums}
+use Rattle.oc_macho.specs.{declared.section_header.SectionHeader.{SectionHeader}, Tables.{SectionTable, Tables}, Framed.{no_header, table_at}}
 use Rattle.oc_macho.specs.SectionFaults.{own_conditions, limit_conditions, section_conditions, section_stage, stored_of, worth_by}
+use Rattle.oc_macho_judge.specs.Judged.{AreSums}
 
 -- section i, where it is there
 pub there : (t : Tables) (i : ℕ) → i < length t.sections → slice_get t.sections i ≡ Some (table_at t i)

@@ -1,21 +1,15 @@
 -- Symbols, judged one after the other.
 use Rattle.std.proofs.Common.{◌≡◌, ℕ, zero, suc, ◌+◌, ◌<◌, Bool, true, false, cond, List, [], ◌∷◌, ◌++◌, length, map, take, Option, None, Some, refl, sym, ◌∙◌, ap, arith}
-use Rattle.std.specs.Prelude.{is_some, slice_get, MatchOption}
-use Rattle.std.specs.Option.{option_map, option_map_or, option_copied, option_flatten}
-use Rattle.std.proofs.lemmas.List.{length-map, map-append}
-use Rattle.std.proofs.lemmas.Option.{none-some, same_Some, slice_get-map}
+use Rattle.std.specs.{Prelude.{is_some, slice_get, MatchOption}, Option.{option_map, option_map_or, option_copied, option_flatten}}
+use Rattle.std.proofs.lemmas.{List.{length-map, map-append}, Option.{none-some, same_Some, slice_get-map}}
 use denote.Ref.{Bor}
-use Rattle.oc_linking.specs.Numbers.{first_upto}
-use Rattle.oc_linking.specs.FirstFault.{first_broken, fault_of}
+use Rattle.oc_linking.specs.{Numbers.{first_upto}, FirstFault.{first_broken, fault_of}}
 use Rattle.oc_linking.proofs.FirstFaultLaws.{first_upto_none}
-use Rattle.oc_strings.specs.declared.repeats.Repeat.{Repeat}
-use Rattle.oc_strings.specs.Repeats.{NameList, name_at, names_of, repeat_at, first_repeat}
+use Rattle.oc_strings.specs.{declared.repeats.Repeat.{Repeat}, Repeats.{NameList, name_at, names_of, repeat_at, first_repeat}}
 use Rattle.oc_shelf.proofs.ReadingLaws.StageLemmas.{all_hold, clean_both}
-use Rattle.oc_macho.specs.declared.nlist.Nlist.{Nlist}
-use Rattle.oc_macho.specs.Tables.{Tables}
-use Rattle.oc_macho.specs.Symbols.{is_stab}
-use Rattle.oc_macho_judge.specs.Judged.{ends_at}
+use Rattle.oc_macho.specs.{declared.nlist.Nlist.{Nlist}, Tables.{Tables}, Symbols.{is_stab}}
 use Rattle.oc_macho.specs.SymbolFaults.{kind_conditions, home_conditions, name_conditions, symbol_conditions, symbol_stage, public_names, public_name}
+use Rattle.oc_macho_judge.specs.Judged.{ends_at}
 use Rattle.oc_shows.proofs.RepeatLaws as laws
 
 -- ... repeats

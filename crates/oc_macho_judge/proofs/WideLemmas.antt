@@ -1,53 +1,33 @@
 -- Differences of one section whose constants do not fit their fields.
 use Rattle.std.proofs.Common.{◌≡◌, ℕ, ◌-◌, Bool, true, false, cond, List, [], ◌∷◌, Option, None, Some, refl, sym, ◌∙◌, ap, subst}
-use Rattle.std.specs.Prelude.{not, ◌&&◌, ◌||◌, nat_eq, find, is_some, slice_get, ℤ, pos, ◌+ℤ◌, ◌-ℤ◌}
-use Rattle.std.specs.Option.{option_map, option_map_or, option_and_then}
-use Rattle.std.proofs.lemmas.Bool.{eqb-true, true≢false}
-use Rattle.std.proofs.lemmas.Option.{none-some, same_Some}
+use Rattle.std.specs.{Prelude.{not, ◌&&◌, ◌||◌, nat_eq, find, is_some, slice_get, ℤ, pos, ◌+ℤ◌, ◌-ℤ◌}, Option.{option_map, option_map_or, option_and_then}}
 use Rattle.std.specs.Cmp.{second_so}
-use Rattle.oc_base.specs.Numbers.{number_at}
-use Rattle.oc_base.specs.declared.format.Word.{Word}
-use Rattle.oc_base.specs.declared.format.Word.TheVariants.{W32, W64}
-use Rattle.oc_linking.specs.declared.terms.Width.{Width}
-use Rattle.oc_linking.specs.declared.terms.Width.TheVariants.{Four}
-use Rattle.oc_linking.specs.declared.terms.Check.{Check}
-use Rattle.oc_linking.specs.declared.terms.Check.TheVariants.{Wrap, Signed, Unsigned, Either}
-use Rattle.oc_linking.specs.declared.terms.Hint.TheVariants.{Plain}
-use Rattle.oc_linking.specs.declared.terms.Base.{Base}
-use Rattle.oc_linking.specs.declared.terms.Base.TheVariants.{Address, Slot, GotBase, HomeNumber}
-use Rattle.oc_linking.specs.declared.terms.Less.TheVariants as less
-use Rattle.oc_linking.specs.declared.terms.Binding.{Binding}
-use Rattle.oc_linking.specs.declared.terms.Binding.TheVariants.{Local, Global, Undefined, Common, Weak}
-use Rattle.oc_linking.specs.declared.terms.Value.TheVariants as value
-use Rattle.oc_linking.specs.Fits.{fits}
-use Rattle.oc_linking.specs.Targets as file
-use Rattle.oc_linking.specs.Parts.{Symbol}
+use Rattle.std.proofs.lemmas.{Bool.{eqb-true, true≢false}, Option.{none-some, same_Some}}
+use Rattle.oc_base.specs.{Numbers.{number_at}, declared.format.Word.{Word}, declared.format.Word.TheVariants.{W32, W64}}
+use Rattle.oc_linking.specs.{declared.terms.Width.{Width}, declared.terms.Width.TheVariants.{Four}, declared.terms.Check.{Check}}
+use Rattle.oc_linking.specs.{declared.terms.Check.TheVariants.{Wrap, Signed, Unsigned, Either}, declared.terms.Hint.TheVariants.{Plain}}
+use Rattle.oc_linking.specs.{declared.terms.Base.{Base}, declared.terms.Base.TheVariants.{Address, Slot, GotBase, HomeNumber}, declared.terms.Binding.{Binding}}
+use Rattle.oc_linking.specs.{declared.terms.Binding.TheVariants.{Local, Global, Undefined, Common, Weak}, Fits.{fits}, Parts.{Symbol}}
 use Rattle.oc_linking.specs.Rules.{Named, Symbolic, Sectional}
-use Rattle.oc_algebra.specs.Fields.{extended}
-use Rattle.oc_algebra.specs.Residues.{residue_of}
-use Rattle.oc_neutral.specs.declared.mach.TheConstants.{X86_64_RELOC_UNSIGNED, X86_64_RELOC_SUBTRACTOR}
-use Rattle.oc_neutral.specs.declared.reloc.Target.{Target}
-use Rattle.oc_neutral.specs.declared.reloc.Target.TheVariants as target
-use Rattle.oc_neutral.specs.Dialects.{target_by}
+use Rattle.oc_linking.specs.declared.terms.Less.TheVariants as less
+use Rattle.oc_linking.specs.declared.terms.Value.TheVariants as value
+use Rattle.oc_linking.specs.Targets as file
+use Rattle.oc_algebra.specs.{Fields.{extended}, Residues.{residue_of}}
+use Rattle.oc_neutral.specs.{declared.mach.TheConstants.{X86_64_RELOC_UNSIGNED, X86_64_RELOC_SUBTRACTOR}, declared.reloc.Target.{Target}, Dialects.{target_by}}
 use Rattle.oc_neutral.specs.Normal.{Place, cancels}
 use Rattle.oc_neutral.specs.Rows.{Taken, TakesZero, TakesPlace, TakesGotBase, TakesImageBase, TakesHome, TakesSection, before, less_of, row, same_check, same_taken}
 use Rattle.oc_neutral.specs.Mach.Relocs.{MachRow, entry_among, is_entry, mach_entries, of_symbol}
-use Rattle.oc_macho_judge.specs.declared.anchors.Anchor.{Anchor}
-use Rattle.oc_macho.specs.declared.entries.Item.{Item}
-use Rattle.oc_macho.specs.declared.nlist.Nlist.{Nlist}
-use Rattle.oc_macho.specs.declared.relocation_info.RelocationInfo.{RelocationInfo}
-use Rattle.oc_macho.specs.declared.relocation_info.Reference.{Reference}
-use Rattle.oc_macho.specs.declared.relocation_info.Reference.TheVariants as reference
-use Rattle.oc_macho.specs.declared.section_header.SectionHeader.{SectionHeader}
-use Rattle.oc_macho.specs.Tables.{SectionTable, Tables}
-use Rattle.oc_macho.specs.Sections.{address_of, contents_of, header_numbered, holder_of}
-use Rattle.oc_macho.specs.Symbols.{is_own, symbol_of}
+use Rattle.oc_neutral.specs.declared.reloc.Target.TheVariants as target
+use Rattle.oc_macho_judge.specs.{declared.anchors.Anchor.{Anchor}, Anchors.{anchor_in, anchor_of, is_narrow, is_wide}}
+use Rattle.oc_macho.specs.{declared.entries.Item.{Item}, declared.nlist.Nlist.{Nlist}, declared.relocation_info.RelocationInfo.{RelocationInfo}}
+use Rattle.oc_macho.specs.{declared.relocation_info.Reference.{Reference}, declared.section_header.SectionHeader.{SectionHeader}, Tables.{SectionTable, Tables}}
+use Rattle.oc_macho.specs.{Sections.{address_of, contents_of, header_numbered, holder_of}, Symbols.{is_own, symbol_of}}
 use Rattle.oc_macho.specs.Entries.{can_refer, row_for, target_entry, taken_entry, taken_reference}
 use Rattle.oc_macho.specs.Aims.{Aim, aim_in, aim_of, fixed_place, numbered_aim, section_aim, symbol_aim, target_in}
 use Rattle.oc_macho.specs.Fields.{FieldParts, added_by, counted_of, field_of, field_parts_by}
-use Rattle.oc_macho_judge.specs.Anchors.{anchor_in, anchor_of, is_narrow, is_wide}
 use Rattle.oc_macho.specs.Referents.{cannot_be_taken, is_symbolic, referent_by, referent_in}
 use Rattle.oc_macho.specs.RelocationFaults.{constant_of, folds_too_wide, is_too_wide, refers_wrongly}
+use Rattle.oc_macho.specs.declared.relocation_info.Reference.TheVariants as reference
 
 -- ... the one type whose constants may not fit
 

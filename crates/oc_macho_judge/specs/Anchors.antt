@@ -2,22 +2,13 @@
 use Rattle.std.specs.Prelude.{Bool, true, false, ◌&&◌, not, nat_eq, ℤ, pos, ◌+ℤ◌, ◌-ℤ◌, Option, Some, None}
 use Rattle.std.specs.Option.{option_map, option_map_or, option_and_then}
 use Rattle.oc_base.specs.declared.format.Word.{Word}
-use Rattle.oc_linking.specs.declared.terms.Width.TheVariants.{Four}
-use Rattle.oc_linking.specs.declared.terms.Check.TheVariants.{Wrap, Signed}
+use Rattle.oc_linking.specs.{declared.terms.Width.TheVariants.{Four}, declared.terms.Check.TheVariants.{Wrap, Signed}, declared.terms.Binding.{Binding}}
+use Rattle.oc_linking.specs.{declared.terms.Binding.TheVariants.{Local, Global, Undefined, Common, Weak}, Fits.{fits}}
 use Rattle.oc_linking.specs.declared.terms.Value.TheVariants as value
-use Rattle.oc_linking.specs.declared.terms.Binding.{Binding}
-use Rattle.oc_linking.specs.declared.terms.Binding.TheVariants.{Local, Global, Undefined, Common, Weak}
-use Rattle.oc_linking.specs.Fits.{fits}
 use Rattle.oc_algebra.specs.Residues.{residue_of}
-use Rattle.oc_neutral.specs.Normal.{Place}
-use Rattle.oc_neutral.specs.Rows.{TakesSection, same_taken, same_check}
-use Rattle.oc_neutral.specs.Mach.Relocs.{MachRow}
+use Rattle.oc_neutral.specs.{Normal.{Place}, Rows.{TakesSection, same_taken, same_check}, Mach.Relocs.{MachRow}}
 use Rattle.oc_macho_judge.specs.declared.anchors.Anchor.{Anchor}
-use Rattle.oc_macho.specs.declared.relocation_info.Reference.{Reference}
-use Rattle.oc_macho.specs.Tables.{Tables}
-use Rattle.oc_macho.specs.Aims.{Aim, aim_in}
-use Rattle.oc_macho.specs.Fields.{counted_of}
-use Rattle.oc_macho.specs.Referents.{is_symbolic}
+use Rattle.oc_macho.specs.{declared.relocation_info.Reference.{Reference}, Tables.{Tables}, Aims.{Aim, aim_in}, Fields.{counted_of}, Referents.{is_symbolic}}
 
 -- the anchor of what an entry refers to
 abbrev pub anchor_of : Aim → Option Anchor

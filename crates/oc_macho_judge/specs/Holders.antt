@@ -1,15 +1,10 @@
 -- Which section holds an address of the file, as it is looked up (our profile).
 use Rattle.std.specs.Prelude.{◌≡◌, ℕ, ◌+◌, ◌^◌, ◌<◌, ◌≤◌, Bool, true, ◌&&◌, ◌||◌, nat_eq, nat_le, nat_lt, if◌then◌else◌, is_some, List, length, map, Option, Some, None}
-use Rattle.std.specs.BTreeMap.{BTreeMap, get}
-use Rattle.std.specs.List.{All, Any, Contains}
-use Rattle.std.specs.List.Sorted.{IsNonDecreasingBy}
-use Rattle.std.specs.Ordering.{nat_cmp}
+use Rattle.std.specs.{BTreeMap.{BTreeMap, get}, List.{All, Any, Contains}, List.Sorted.{IsNonDecreasingBy}, Ordering.{nat_cmp}}
 use Rattle.oc_linking.specs.Numbers.{first_upto, or_else}
 use Rattle.oc_shelf.specs.Reading.Spans.{end_at}
 use Rattle.oc_macho_judge.specs.declared.holders.Edge.{Edge}
-use Rattle.oc_macho.specs.declared.section_header.SectionHeader.{SectionHeader}
-use Rattle.oc_macho.specs.Tables.{Tables}
-use Rattle.oc_macho.specs.Framed.{table_at}
+use Rattle.oc_macho.specs.{declared.section_header.SectionHeader.{SectionHeader}, Tables.{Tables}, Framed.{table_at}}
 
 -- the number at an address
 abbrev pub number_by : List (ℕ × ℕ) → ℕ → Option ℕ

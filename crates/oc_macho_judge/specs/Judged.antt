@@ -1,14 +1,10 @@
 -- What is known of a file while it is judged (our profile).
-use Rattle.std.specs.Prelude.{◌≡◌, ℕ, ◌<◌, ◌≤◌, Bool, false, nat_eq, List, Option, Some}
-use Rattle.std.specs.Option.{option_map_or}
+use Rattle.std.specs.{Prelude.{◌≡◌, ℕ, ◌<◌, ◌≤◌, Bool, false, nat_eq, List, Option, Some}, Option.{option_map_or}}
 use Rattle.oc_strings.specs.declared.repeats.Repeat.{Repeat}
 use Rattle.oc_base.specs.declared.fault.Fault.{Fault}
 use Rattle.oc_linking.specs.FirstFault.{first_broken}
-use Rattle.oc_shelf.specs.Reading.Bitmaps.{AreBytesOf, room}
-use Rattle.oc_shelf.specs.Reading.Sums.{sum_upto}
-use Rattle.oc_macho.specs.Tables.{SectionTable, Tables}
-use Rattle.oc_macho.specs.RelocationFaults.{entry_conditions, span_at, stored_size}
-use Rattle.oc_macho.specs.SectionFaults.{size_at, stored_at}
+use Rattle.oc_shelf.specs.{Reading.Bitmaps.{AreBytesOf, room}, Reading.Sums.{sum_upto}}
+use Rattle.oc_macho.specs.{Tables.{SectionTable, Tables}, RelocationFaults.{entry_conditions, span_at, stored_size}, SectionFaults.{size_at, stored_at}}
 
 -- the sums of the first i sections, which keep the limits
 pub record AreSums (t : Tables) (i sizes bytes : ℕ) : Type 0 where

@@ -1,46 +1,25 @@
 -- The relocations of a file without faults, added one after the other.
 use Rattle.std.proofs.Common.{Bool, List, None, Option, Some, [], ap, arith, cond, false, length, map, nat_lt, refl, slice_get, subst, sym, true, true≢false, ℕ, ◌+◌, ◌-◌, ◌<◌, ◌^◌, ◌||◌, ◌∙◌, ◌≡◌, ◌≤◌}
-use Rattle.std.proofs.lemmas.List.{length-map}
-use Rattle.std.proofs.lemmas.Option.{none-some, same_Some, slice_get-map, slice_get_within}
+use Rattle.std.proofs.lemmas.{List.{length-map}, Option.{none-some, same_Some, slice_get-map, slice_get_within}}
 use Rattle.std.specs.Option.{option_and_then, option_map, option_map_or, unwrap_or}
 use Rattle.oc_base.specs.declared.format.Word.{Word}
-use Rattle.oc_linking.specs.FirstFault.{stage_fault}
-use Rattle.oc_linking.specs.Fits.{bytes_of}
-use Rattle.oc_linking.specs.declared.terms.Binding.TheVariants.{Common, Global, Local, Undefined, Weak}
-use Rattle.oc_linking.specs.declared.terms.Binding.{Binding}
-use Rattle.oc_linking.specs.declared.terms.Keep.{Keep}
-use Rattle.oc_macho.specs.Aims.{aim_in, fixed_place, target_in}
-use Rattle.oc_macho.specs.Entries.{is_pinned, taken_entry, target_entry}
-use Rattle.oc_macho.specs.Fields.{taken_section}
-use Rattle.oc_macho.specs.Rules.{mach_dialect, symbols_in}
-use Rattle.oc_macho.specs.Sections.{is_zerofill, kind_of, section_of, sections_in}
-use Rattle.oc_macho.specs.SymbolFaults.{symbol_stage}
-use Rattle.oc_macho.specs.Symbols.{binding_of, is_carried, is_type, offset_of}
-use Rattle.oc_macho.specs.Tables.{SectionTable, Tables, tables_of}
-use Rattle.oc_macho.specs.declared.constants.TheConstants.{N_ABS, N_UNDF}
-use Rattle.oc_macho.specs.declared.entries.Item.{Item}
-use Rattle.oc_macho.specs.declared.nlist.Nlist.{Nlist}
-use Rattle.oc_macho.specs.declared.relocation_info.Reference.{Reference}
-use Rattle.oc_macho.specs.declared.section_header.SectionHeader.{SectionHeader}
-use Rattle.oc_macho_read.proofs.AimLemmas.{Carried, IsAim, IsNamed, IsSectional, Own, ToAddress, ToSection, ToSymbol, aim_is}
-use Rattle.oc_macho_read.proofs.FitLemmas.{differences_fit}
+use Rattle.oc_linking.specs.{FirstFault.{stage_fault}, Fits.{bytes_of}, declared.terms.Binding.TheVariants.{Common, Global, Local, Undefined, Weak}}
+use Rattle.oc_linking.specs.{declared.terms.Binding.{Binding}, declared.terms.Keep.{Keep}}
+use Rattle.oc_macho.specs.{Aims.{aim_in, fixed_place, target_in}, Entries.{is_pinned, taken_entry, target_entry}, Fields.{taken_section}}
+use Rattle.oc_macho.specs.{Rules.{mach_dialect, symbols_in}, Sections.{is_zerofill, kind_of, section_of, sections_in}, SymbolFaults.{symbol_stage}}
+use Rattle.oc_macho.specs.{Symbols.{binding_of, is_carried, is_type, offset_of}, Tables.{SectionTable, Tables, tables_of}}
+use Rattle.oc_macho.specs.{declared.constants.TheConstants.{N_ABS, N_UNDF}, declared.entries.Item.{Item}, declared.nlist.Nlist.{Nlist}}
+use Rattle.oc_macho.specs.{declared.relocation_info.Reference.{Reference}, declared.section_header.SectionHeader.{SectionHeader}}
+use Rattle.oc_macho_read.proofs.{AimLemmas.{Carried, IsAim, IsNamed, IsSectional, Own, ToAddress, ToSection, ToSymbol, aim_is}, FitLemmas.{differences_fit}}
 use Rattle.oc_macho_read.proofs.ItemLemmas.{IsGoodItem, IsTaken, Nothing, Something, found_as, row_width, taken_is}
-use Rattle.oc_macho_read.proofs.SectionedLemmas.{at_most, length-sections_in, section_there}
-use Rattle.oc_macho_read.proofs.ShownLemmas.{zero_kind}
+use Rattle.oc_macho_read.proofs.{SectionedLemmas.{at_most, length-sections_in, section_there}, ShownLemmas.{zero_kind}}
 use Rattle.oc_macho_read.proofs.StandingLemmas.{IsStanding, are_apart, are_of_file, given_same, given_standing}
 use Rattle.oc_macho_read.proofs.SymbolLemmas.{IsSoundSymbol, as_computed, as_part, carried_at, each_binding, each_outer, has_home, known_section, left_at, local_defined, not_stab, sound_symbol, symbol_stands, symbols_are}
-use Rattle.oc_macho_read.specs.Adding.{IsClean}
-use Rattle.oc_macho_read.specs.Built.{started, symbol_as}
-use Rattle.oc_macho_read.specs.Given.{IsTakeable, given_at, target_for}
-use Rattle.oc_neutral.specs.Building.{Draft, is_zero}
-use Rattle.oc_shows.specs.Built.{IsStarted}
-use Rattle.oc_shows.specs.Computed.{computed_symbol, position_of}
-use Rattle.oc_neutral.specs.Invariants.{CanAdd, IsLessThere, IsTargetThere}
-use Rattle.oc_neutral.specs.Normal.{Place, local_place, place_among, place_of}
-use Rattle.oc_neutral.specs.Rows.{Taken, TakesGotBase, TakesHome, TakesImageBase, TakesPlace, TakesSection, TakesZero}
-use Rattle.oc_shows.specs.Started.{stored_section}
-use Rattle.oc_neutral.specs.declared.reloc.Reloc.{Reloc}
+use Rattle.oc_macho_read.specs.{Adding.{IsClean}, Built.{started, symbol_as}, Given.{IsTakeable, given_at, target_for}}
+use Rattle.oc_neutral.specs.{Building.{Draft, is_zero}, Invariants.{CanAdd, IsLessThere, IsTargetThere}, Normal.{Place, local_place, place_among, place_of}}
+use Rattle.oc_neutral.specs.{Rows.{Taken, TakesGotBase, TakesHome, TakesImageBase, TakesPlace, TakesSection, TakesZero}, declared.reloc.Reloc.{Reloc}}
 use Rattle.oc_neutral.specs.declared.symbol.Symbol.{Symbol}
+use Rattle.oc_shows.specs.{Built.{IsStarted}, Computed.{computed_symbol, position_of}, Started.{stored_section}}
 use Rattle.oc_linking.specs.Parts as parts
 use Rattle.oc_linking.specs.declared.terms.Value.TheVariants as value
 use Rattle.oc_neutral.specs.declared.reloc.Target.TheVariants as target

@@ -1,37 +1,19 @@
 -- What a relocation is against is what the entry refers to.
 use Rattle.std.proofs.Common.{Bool, List, None, Option, Some, [], ap, arith, bytes_eq, cond, false, nat_eq, not, pos, refl, slice_get, subst, sym, true, true≢false, ℕ, ℤ, ◌&&◌, ◌-ℤ◌, ◌-◌, ◌||◌, ◌∙◌, ◌≡◌}
 use Rattle.std.proofs.Math.IntN.{+ℤ_idr}
-use Rattle.std.proofs.lemmas.Bool.{eqb-true}
-use Rattle.std.proofs.lemmas.Option.{none-some, same_Some, slice_get_within}
+use Rattle.std.proofs.lemmas.{Bool.{eqb-true}, Option.{none-some, same_Some, slice_get_within}}
 use Rattle.std.specs.Option.{option_and_then, option_map, option_map_or, unwrap_or}
-use Rattle.oc_base.specs.declared.format.Word.TheVariants.{W32, W64}
-use Rattle.oc_base.specs.declared.format.Word.{Word}
-use Rattle.oc_linking.specs.Targets.{symbol_target}
-use Rattle.oc_linking.specs.declared.terms.Base.{Base}
-use Rattle.oc_linking.specs.declared.terms.Keep.{Keep}
-use Rattle.oc_macho.specs.Aims.{aim_in, fixed_place}
-use Rattle.oc_macho.specs.Entries.{is_pinned}
-use Rattle.oc_macho.specs.Rules.{mach_dialect, symbols_in}
-use Rattle.oc_macho.specs.Sections.{address_of, holder_of}
+use Rattle.oc_base.specs.{declared.format.Word.TheVariants.{W32, W64}, declared.format.Word.{Word}}
+use Rattle.oc_linking.specs.{Targets.{symbol_target}, declared.terms.Base.{Base}, declared.terms.Keep.{Keep}}
+use Rattle.oc_macho.specs.{Aims.{aim_in, fixed_place}, Entries.{is_pinned}, Rules.{mach_dialect, symbols_in}, Sections.{address_of, holder_of}}
 use Rattle.oc_macho.specs.Symbols.{binding_of, is_at_start, is_carried, is_external, is_own, is_own_in, is_stab, is_type, name_of, offset_of, symbol_of}
-use Rattle.oc_macho.specs.Tables.{SectionTable, Tables, tables_of}
-use Rattle.oc_macho.specs.declared.constants.TheConstants.{N_SECT}
-use Rattle.oc_macho.specs.declared.nlist.Nlist.{Nlist}
-use Rattle.oc_macho.specs.declared.relocation_info.Reference.{Reference}
-use Rattle.oc_macho.specs.declared.section_header.SectionHeader.{SectionHeader}
+use Rattle.oc_macho.specs.{Tables.{SectionTable, Tables, tables_of}, declared.constants.TheConstants.{N_SECT}, declared.nlist.Nlist.{Nlist}}
+use Rattle.oc_macho.specs.{declared.relocation_info.Reference.{Reference}, declared.section_header.SectionHeader.{SectionHeader}}
 use Rattle.oc_macho_read.proofs.SymbolLemmas.{as_part, carried_at, left_at, number, symbol_stands}
-use Rattle.oc_macho_read.specs.Built.{symbol_position}
-use Rattle.oc_macho_read.specs.Given.{target_by, target_for}
+use Rattle.oc_macho_read.specs.{Built.{symbol_position}, Given.{target_by, target_for}}
 use Rattle.oc_shows.proofs.RowFieldLaws.{rows_are_fields, section_rows_are_fields, symbol_is_target}
-use Rattle.oc_shows.specs.Built.{IsField}
-use Rattle.oc_shows.specs.Computed.{position_of}
-use Rattle.oc_neutral.specs.Faces.{shown_symbols}
-use Rattle.oc_neutral.specs.Mach.SectionSymbols.{section_symbol_name}
-use Rattle.oc_neutral.specs.Normal.{moved_addend}
-use Rattle.oc_neutral.specs.Objects.{Object}
-use Rattle.oc_shows.specs.RowFields.{place_target, row_field}
-use Rattle.oc_shows.specs.RowValues.{row_reloc}
-use Rattle.oc_neutral.specs.Rows.{Row}
+use Rattle.oc_shows.specs.{Built.{IsField}, Computed.{position_of}, RowFields.{place_target, row_field}, RowValues.{row_reloc}}
+use Rattle.oc_neutral.specs.{Faces.{shown_symbols}, Mach.SectionSymbols.{section_symbol_name}, Normal.{moved_addend}, Objects.{Object}, Rows.{Row}}
 use Rattle.oc_neutral.specs.declared.reloc.Target.{Target}
 use Rattle.oc_linking.specs.Parts as parts
 use Rattle.oc_linking.specs.Targets as file

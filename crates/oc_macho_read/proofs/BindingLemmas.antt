@@ -1,33 +1,17 @@
 -- The symbols of a file without faults, added one after the other.
 use Rattle.std.proofs.Common.{List, None, Ok, Option, Some, [], ap, arith, bytes_eq, cond, false, inl, inr, length, map, not, refl, slice_get, suc, sym, true, true≢false, zero, ℕ, ◌&&◌, ◌+◌, ◌<◌, ◌∙◌, ◌∷◌, ◌≡◌, ◌≢◌, ◌≤◌, ◌⊎◌}
-use Rattle.std.proofs.lemmas.Bool.{cases_eq}
-use Rattle.std.proofs.lemmas.List.{length-map, map-append}
-use Rattle.std.proofs.lemmas.Option.{slice_get-map, slice_get_within}
-use Rattle.std.proofs.lemmas.Slice.Eq.{bytes_eq-Decides}
-use Rattle.std.specs.Option.{option_and_then, option_flatten, option_map, option_map_or}
-use Rattle.std.specs.Prelude.{is_some}
-use Rattle.oc_linking.specs.FirstFault.{stage_fault}
-use Rattle.oc_linking.specs.Numbers.{first_upto, or_else}
-use Rattle.oc_linking.specs.Parts.{is_local}
-use Rattle.oc_linking.specs.declared.terms.Keep.{Keep}
-use Rattle.oc_macho.specs.Entries.{is_pinned}
-use Rattle.oc_macho.specs.MachHeader.{mach_format}
-use Rattle.oc_macho.specs.Rules.{symbols_in}
-use Rattle.oc_macho.specs.Sections.{sections_in}
-use Rattle.oc_macho.specs.Symbols.{binding_of, is_carried, is_external, is_stab, name_of}
-use Rattle.oc_macho.specs.Tables.{Tables}
-use Rattle.oc_macho.specs.declared.nlist.Nlist.{Nlist}
+use Rattle.std.proofs.lemmas.{Bool.{cases_eq}, List.{length-map, map-append}, Option.{slice_get-map, slice_get_within}, Slice.Eq.{bytes_eq-Decides}}
+use Rattle.std.specs.{Option.{option_and_then, option_flatten, option_map, option_map_or}, Prelude.{is_some}}
+use Rattle.oc_linking.specs.{FirstFault.{stage_fault}, Numbers.{first_upto, or_else}, Parts.{is_local}, declared.terms.Keep.{Keep}}
+use Rattle.oc_macho.specs.{Entries.{is_pinned}, MachHeader.{mach_format}, Rules.{symbols_in}, Sections.{sections_in}}
+use Rattle.oc_macho.specs.{Symbols.{binding_of, is_carried, is_external, is_stab, name_of}, Tables.{Tables}, declared.nlist.Nlist.{Nlist}}
 use Rattle.oc_macho_read.proofs.SectionedLemmas.{sections_whole}
 use Rattle.oc_macho_read.proofs.SymbolLemmas.{as_computed, as_part, carried_at, each_binding, each_outer, is_sound, left_at, not_stab, sound_symbol, standing_at, stands_at}
 use Rattle.oc_macho_read.specs.Built.{IsSound, sectioned, symbol_as, symbol_at, symbol_position, symboled}
-use Rattle.oc_shows.proofs.BuiltSteps.{name_is_new}
-use Rattle.oc_shows.proofs.StartedLaws.{symbol_more}
-use Rattle.oc_neutral.specs.Building.{Draft, symbol_added}
-use Rattle.oc_shows.specs.Computed.{computed_symbol, position_of}
-use Rattle.oc_neutral.specs.Keeping.{is_again}
-use Rattle.oc_shows.specs.Started.{plain_draft, stored_section}
+use Rattle.oc_shows.proofs.{BuiltSteps.{name_is_new}, StartedLaws.{symbol_more}}
+use Rattle.oc_neutral.specs.{Building.{Draft, symbol_added}, Keeping.{is_again}, declared.symbol.Symbol.{Symbol}}
+use Rattle.oc_shows.specs.{Computed.{computed_symbol, position_of}, Started.{plain_draft, stored_section}}
 use Rattle.oc_strings.specs.declared.repeats.Repeat.{Repeat}
-use Rattle.oc_neutral.specs.declared.symbol.Symbol.{Symbol}
 use Rattle.oc_shelf.proofs.ReadingLaws.CollectedLemmas.{collected-from, collected-none, collected-some, length-collected}
 use Rattle.oc_shelf.specs.Reading.Collected.{collected}
 use Rattle.oc_linking.specs.Parts as parts

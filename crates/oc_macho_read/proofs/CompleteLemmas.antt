@@ -1,53 +1,28 @@
 -- What is built of a file without faults is complete and readable before its relocations.
 use Rattle.std.proofs.Common.{Bool, List, None, Option, Some, [], ap, arith, cond, drop, eq-eqb, false, length, length-take, map, nat_eq, nat_le, not, refl, replicate, slice_get, subst, suc, sym, take, true, true≢false, zero, ℕ, ◌%◌, ◌&&◌, ◌*◌, ◌++◌, ◌+◌, ◌<◌, ◌^◌, ◌||◌, ◌∙◌, ◌∷◌, ◌≡◌, ◌≤◌}
-use Rattle.std.proofs.lemmas.Bool.Decides.{nat_tests}
-use Rattle.std.proofs.lemmas.Bool.{ne_eqb}
-use Rattle.std.proofs.lemmas.Option.{none-some, same_Some, slice_get-map, slice_get_within}
-use Rattle.std.specs.List.{list_any, position_or_len}
-use Rattle.std.specs.Option.{option_map, option_map_or}
-use Rattle.oc_base.specs.declared.format.Word.TheVariants.{W32, W64}
-use Rattle.oc_base.specs.declared.format.Word.{Word}
-use Rattle.oc_linking.specs.Numbers.{modulus}
-use Rattle.oc_linking.specs.declared.terms.Keep.{Keep}
-use Rattle.oc_linking.specs.declared.terms.Kind.{Kind}
-use Rattle.oc_macho.specs.MachHeader.{mach_format}
-use Rattle.oc_macho.specs.Nlist.{nlist_at, nlist_size}
-use Rattle.oc_macho.specs.Rules.{mach_dialect}
-use Rattle.oc_macho.specs.SectionHeader.{section_header_at, section_header_size}
+use Rattle.std.proofs.lemmas.{Bool.Decides.{nat_tests}, Bool.{ne_eqb}, Option.{none-some, same_Some, slice_get-map, slice_get_within}}
+use Rattle.std.specs.{List.{list_any, position_or_len}, Option.{option_map, option_map_or}}
+use Rattle.oc_base.specs.{declared.format.Word.TheVariants.{W32, W64}, declared.format.Word.{Word}}
+use Rattle.oc_linking.specs.{Numbers.{modulus}, declared.terms.Keep.{Keep}, declared.terms.Kind.{Kind}}
+use Rattle.oc_macho.specs.{MachHeader.{mach_format}, Nlist.{nlist_at, nlist_size}, Rules.{mach_dialect}, SectionHeader.{section_header_at, section_header_size}}
 use Rattle.oc_macho.specs.Sections.{contents_of, is_zerofill, kind_of, section_name, section_of, sections_in, segment_name, until_nul}
 use Rattle.oc_macho.specs.SegmentCommand.{segment_command_at}
 use Rattle.oc_macho.specs.Tables.{SectionTable, Tables, headers_place, section_table, sections_by, segment_place, strings_by, symbols_by, symtab_of, tables_of}
-use Rattle.oc_macho.specs.declared.nlist.Nlist.{Nlist}
-use Rattle.oc_macho.specs.declared.section_header.SectionHeader.{SectionHeader}
+use Rattle.oc_macho.specs.{declared.nlist.Nlist.{Nlist}, declared.section_header.SectionHeader.{SectionHeader}}
 use Rattle.oc_macho.specs.declared.symtab_command.SymtabCommand.{SymtabCommand}
-use Rattle.oc_macho_read.proofs.AddedLemmas.{inside_by}
-use Rattle.oc_shelf.proofs.ReadingLaws.ByteLemmas.{all_drop, all_take, number_small}
-use Rattle.oc_macho_read.proofs.SectionedLemmas.{section_from, section_there, sound_section}
-use Rattle.oc_macho_read.proofs.StandingLemmas.{given_standing}
-use Rattle.oc_macho_read.specs.Adding.{IsClean}
-use Rattle.oc_macho_read.specs.Built.{started}
-use Rattle.oc_macho_read.specs.Given.{given_at}
+use Rattle.oc_macho_read.proofs.{AddedLemmas.{inside_by}, SectionedLemmas.{section_from, section_there, sound_section}, StandingLemmas.{given_standing}}
+use Rattle.oc_shelf.proofs.{ReadingLaws.ByteLemmas.{all_drop, all_take, number_small}, ReadingLaws.RowLemmas.{length-rows, row_at}}
+use Rattle.oc_shelf.proofs.ReadingLaws.CollectedLemmas.{all_mapped}
+use Rattle.oc_macho_read.specs.{Adding.{IsClean}, Built.{started}, Given.{given_at}}
 use Rattle.oc_neutral.proofs.GivenLaws.{mach_given}
 use Rattle.oc_shows.proofs.StartedLaws.{fieldless_at}
-use Rattle.oc_neutral.specs.Building.{is_zero}
-use Rattle.oc_shows.specs.Built.{IsStarted}
-use Rattle.oc_shows.specs.Finished.{LeavesBlanks}
-use Rattle.oc_neutral.specs.GivenTags.{can_have, is_blank_type}
-use Rattle.oc_neutral.specs.Invariants.{AreBytes}
-use Rattle.oc_neutral.specs.KindRules.{has_nul}
-use Rattle.oc_neutral.specs.Mach.Family.{is_mach_name, mach_family}
-use Rattle.oc_neutral.specs.Mach.Kinds.{is_zerofill_tag, mach_kind, mach_tag}
-use Rattle.oc_neutral.specs.Objects.{Object}
-use Rattle.oc_shows.specs.Readable.{AreZeros, IsReadable}
-use Rattle.oc_shows.specs.Started.{stored_section}
-use Rattle.oc_neutral.specs.declared.mach.TheConstants.{S_ZEROFILL}
-use Rattle.oc_neutral.specs.declared.reloc.Reloc.{Reloc}
-use Rattle.oc_neutral.specs.declared.section.Section.{Section}
-use Rattle.oc_shelf.proofs.ReadingLaws.RowLemmas.{length-rows, row_at}
+use Rattle.oc_neutral.specs.{Building.{is_zero}, GivenTags.{can_have, is_blank_type}, Invariants.{AreBytes}, KindRules.{has_nul}}
+use Rattle.oc_neutral.specs.{Mach.Family.{is_mach_name, mach_family}, Mach.Kinds.{is_zerofill_tag, mach_kind, mach_tag}, Objects.{Object}}
+use Rattle.oc_neutral.specs.{declared.mach.TheConstants.{S_ZEROFILL}, declared.reloc.Reloc.{Reloc}, declared.section.Section.{Section}}
+use Rattle.oc_shows.specs.{Built.{IsStarted}, Finished.{LeavesBlanks}, Readable.{AreZeros, IsReadable}, Started.{stored_section}}
 use Rattle.oc_shelf.specs.Reading.Rows.{rows}
 use Rattle.oc_linking.specs.Parts as parts
 use Rattle.oc_neutral.specs.Mach.Kinds as kinds
-use Rattle.oc_shelf.proofs.ReadingLaws.CollectedLemmas.{all_mapped}
 
 -- ... what is read is small
 

@@ -4,40 +4,20 @@ use Rattle.std.proofs.lemmas.Option.{none-some, same_Some, slice_get_within}
 use Rattle.std.specs.Option.{option_and_then, option_map, option_map_or}
 use Rattle.oc_algebra.proofs.Laws.{residue_less}
 use Rattle.oc_algebra.specs.Residues.{residue_of}
-use Rattle.oc_base.specs.declared.format.Word.TheVariants.{W32, W64}
-use Rattle.oc_base.specs.declared.format.Word.{Word}
-use Rattle.oc_linking.specs.Numbers.{minus, reduced}
-use Rattle.oc_linking.specs.Parts.{is_local}
-use Rattle.oc_linking.specs.Placing.{Placement, Site}
-use Rattle.oc_linking.specs.Rules.{Field, Named, Sectional, Symbolic}
-use Rattle.oc_linking.specs.Values.{Valuation, Valued, fixed_site, place_site}
-use Rattle.oc_linking.specs.declared.terms.Binding.TheVariants.{Common, Global, Local, Undefined, Weak}
-use Rattle.oc_linking.specs.declared.terms.Binding.{Binding}
-use Rattle.oc_linking.specs.declared.terms.Keep.{Keep}
-use Rattle.oc_macho.specs.Aims.{aim_in, fixed_place, target_in}
-use Rattle.oc_macho.specs.Entries.{is_pinned, item_at, taken_entry, taken_reference, target_entry}
-use Rattle.oc_macho.specs.Fields.{FieldParts, added_by, field_with, taken_address, taken_section}
-use Rattle.oc_macho.specs.RelocationFaults.{beyond}
-use Rattle.oc_macho.specs.Rules.{mach_dialect, symbols_in}
-use Rattle.oc_macho.specs.Symbols.{binding_of, is_carried}
-use Rattle.oc_macho.specs.Tables.{SectionTable, Tables, tables_of}
-use Rattle.oc_macho.specs.declared.entries.Item.{Item}
-use Rattle.oc_macho.specs.declared.nlist.Nlist.{Nlist}
-use Rattle.oc_macho.specs.declared.relocation_info.Reference.{Reference}
+use Rattle.oc_base.specs.{declared.format.Word.TheVariants.{W32, W64}, declared.format.Word.{Word}}
+use Rattle.oc_linking.specs.{Numbers.{minus, reduced}, Parts.{is_local}, Placing.{Placement, Site}, Rules.{Field, Named, Sectional, Symbolic}}
+use Rattle.oc_linking.specs.{Values.{Valuation, Valued, fixed_site, place_site}, declared.terms.Binding.TheVariants.{Common, Global, Local, Undefined, Weak}}
+use Rattle.oc_linking.specs.{declared.terms.Binding.{Binding}, declared.terms.Keep.{Keep}}
+use Rattle.oc_macho.specs.{Aims.{aim_in, fixed_place, target_in}, Entries.{is_pinned, item_at, taken_entry, taken_reference, target_entry}}
+use Rattle.oc_macho.specs.{Fields.{FieldParts, added_by, field_with, taken_address, taken_section}, RelocationFaults.{beyond}, Rules.{mach_dialect, symbols_in}}
+use Rattle.oc_macho.specs.{Symbols.{binding_of, is_carried}, Tables.{SectionTable, Tables, tables_of}, declared.entries.Item.{Item}}
+use Rattle.oc_macho.specs.{declared.nlist.Nlist.{Nlist}, declared.relocation_info.Reference.{Reference}}
 use Rattle.oc_macho_read.proofs.AimLemmas.{Carried, IsAim, IsNamed, IsSectional, IsSymbolic, Own, ToAddress, ToSection, ToSymbol, against, aim_is, zero_less}
 use Rattle.oc_macho_read.proofs.ItemLemmas.{IsGoodItem, IsTaken, Nothing, Something, first_takes, found_as, reference_second, second_first, taken_is}
 use Rattle.oc_macho_read.proofs.SymbolLemmas.{as_part, carried_at, symbol_stands}
 use Rattle.oc_macho_read.specs.Given.{IsTakeable, reloc_as, taken_offset, target_for}
-use Rattle.oc_shows.specs.Built.{IsField}
-use Rattle.oc_shows.specs.Computed.{position_of}
-use Rattle.oc_neutral.specs.Faces.{shown_symbols}
-use Rattle.oc_neutral.specs.Mach.Relocs.{MachRow}
-use Rattle.oc_neutral.specs.Normal.{Place}
-use Rattle.oc_neutral.specs.Objects.{Object}
-use Rattle.oc_shows.specs.RowFields.{row_field}
-use Rattle.oc_shows.specs.RowValues.{row_reloc}
-use Rattle.oc_neutral.specs.Rows.{Taken, TakesSection}
-use Rattle.oc_shows.specs.Shows.{IsTrueToFixed}
+use Rattle.oc_shows.specs.{Built.{IsField}, Computed.{position_of}, RowFields.{row_field}, RowValues.{row_reloc}, Shows.{IsTrueToFixed}}
+use Rattle.oc_neutral.specs.{Faces.{shown_symbols}, Mach.Relocs.{MachRow}, Normal.{Place}, Objects.{Object}, Rows.{Taken, TakesSection}}
 use Rattle.oc_linking.specs.Parts as parts
 use Rattle.oc_linking.specs.Targets as file
 use Rattle.oc_linking.specs.declared.terms.Value.TheVariants as value

@@ -1,42 +1,23 @@
 -- The differences of a file without faults fit.
 use Rattle.std.proofs.Common.{Bool, List, None, Option, Some, ap, arith, false, not, pos, refl, subst, sym, true, true≢false, ℕ, ℤ, ◌%◌, ◌&&◌, ◌+◌, ◌-ℤ◌, ◌∙◌, ◌≡◌}
-use Rattle.std.proofs.lemmas.Bool.{eqb-true, not-false}
-use Rattle.std.proofs.lemmas.Option.{same_Some}
-use Rattle.std.specs.Option.{option_and_then, option_map_or}
-use Rattle.std.specs.Prelude.{is_some, ◌+ℤ◌}
+use Rattle.std.proofs.lemmas.{Bool.{eqb-true, not-false}, Option.{same_Some}}
+use Rattle.std.specs.{Option.{option_and_then, option_map_or}, Prelude.{is_some, ◌+ℤ◌}}
 use Rattle.oc_algebra.proofs.Laws.{residue_add, residue_less, residue_nat}
 use Rattle.oc_algebra.specs.Residues.{residue_of}
-use Rattle.oc_base.specs.declared.format.Word.TheVariants.{W32, W64}
-use Rattle.oc_base.specs.declared.format.Word.{Word}
-use Rattle.oc_linking.specs.FirstFault.{first_fault}
-use Rattle.oc_linking.specs.Fits.{fits}
-use Rattle.oc_linking.specs.Numbers.{minus, modulus, reduced}
-use Rattle.oc_linking.specs.Placing.{zeros}
-use Rattle.oc_linking.specs.Rules.{Field, Named, Sectional, Symbolic}
-use Rattle.oc_linking.specs.Values.{Valuation}
-use Rattle.oc_linking.specs.declared.terms.Base.{Base}
-use Rattle.oc_linking.specs.declared.terms.Keep.{Keep}
+use Rattle.oc_base.specs.{declared.format.Word.TheVariants.{W32, W64}, declared.format.Word.{Word}}
+use Rattle.oc_linking.specs.{FirstFault.{first_fault}, Fits.{fits}, Numbers.{minus, modulus, reduced}, Placing.{zeros}}
+use Rattle.oc_linking.specs.{Rules.{Field, Named, Sectional, Symbolic}, Values.{Valuation}, declared.terms.Base.{Base}, declared.terms.Keep.{Keep}}
 use Rattle.oc_linking.specs.declared.terms.Less.{Less}
-use Rattle.oc_macho.specs.Aims.{target_in}
-use Rattle.oc_macho.specs.Entries.{is_first, taken_entry, target_entry}
-use Rattle.oc_macho.specs.Fields.{FieldParts, added_by, field_of, number_of, taken_address, taken_at, taken_section}
-use Rattle.oc_macho.specs.RelocationFaults.{beyond}
-use Rattle.oc_macho.specs.Rules.{mach_dialect, symbols_in}
-use Rattle.oc_macho.specs.Tables.{SectionTable, Tables, tables_of}
-use Rattle.oc_macho.specs.declared.relocation_info.Reference.{Reference}
+use Rattle.oc_macho.specs.{Aims.{target_in}, Entries.{is_first, taken_entry, target_entry}}
+use Rattle.oc_macho.specs.{Fields.{FieldParts, added_by, field_of, number_of, taken_address, taken_at, taken_section}, RelocationFaults.{beyond}}
+use Rattle.oc_macho.specs.{Rules.{mach_dialect, symbols_in}, Tables.{SectionTable, Tables, tables_of}, declared.relocation_info.Reference.{Reference}}
 use Rattle.oc_macho_read.proofs.FieldLemmas.{taken_lies, target_lies}
 use Rattle.oc_macho_read.proofs.ItemLemmas.{IsTaken, Nothing, Something, found_as, found_is, pair_row, second_reference, taken_is, takes_first}
-use Rattle.oc_macho_read.proofs.StandingLemmas.{IsStanding, field_standing, pinned_by}
-use Rattle.oc_macho_read.proofs.SymbolLemmas.{symbols_numbered}
+use Rattle.oc_macho_read.proofs.{StandingLemmas.{IsStanding, field_standing, pinned_by}, SymbolLemmas.{symbols_numbered}}
 use Rattle.oc_shows.proofs.Truth.{values_fixed}
-use Rattle.oc_shows.specs.Built.{DifferencesFit}
-use Rattle.oc_shows.specs.Computed.{zero_values, zeros_outside}
-use Rattle.oc_neutral.specs.Dialects.{is_difference, target_by}
-use Rattle.oc_neutral.specs.Faces.{shown_symbols}
-use Rattle.oc_neutral.specs.Normal.{Place, cancels}
-use Rattle.oc_neutral.specs.Objects.{Object}
+use Rattle.oc_shows.specs.{Built.{DifferencesFit}, Computed.{zero_values, zeros_outside}, Shows.{IsTrueToFixed}}
+use Rattle.oc_neutral.specs.{Dialects.{is_difference, target_by}, Faces.{shown_symbols}, Normal.{Place, cancels}, Objects.{Object}}
 use Rattle.oc_neutral.specs.Rows.{Taken, TakesGotBase, TakesHome, TakesImageBase, TakesPlace, TakesSection, TakesZero}
-use Rattle.oc_shows.specs.Shows.{IsTrueToFixed}
 use Rattle.oc_linking.specs.declared.terms.Base.TheVariants as base
 use Rattle.oc_linking.specs.declared.terms.Less.TheVariants as less
 use Rattle.oc_neutral.specs.Rows as rows

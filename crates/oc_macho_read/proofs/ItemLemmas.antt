@@ -1,32 +1,19 @@
 -- The fields of a section without faults.
 use Rattle.std.proofs.Common.{Bool, List, None, Option, Some, [], ap, cond, false, find, length, nat_eq, not, refl, slice_get, subst, sym, true, true≢false, ℕ, ◌&&◌, ◌++◌, ◌+◌, ◌<◌, ◌^◌, ◌||◌, ◌∙◌, ◌∷◌, ◌≡◌}
-use Rattle.std.proofs.lemmas.Bool.{eqb-true, or_parts}
-use Rattle.std.proofs.lemmas.Option.{none-some, same_Some, slice_get_within}
-use Rattle.std.specs.Option.{option_and_then, option_map, option_map_or}
-use Rattle.std.specs.Prelude.{is_none, is_some}
-use Rattle.oc_base.specs.declared.format.Word.TheVariants.{W32, W64}
-use Rattle.oc_base.specs.declared.format.Word.{Word}
-use Rattle.oc_linking.specs.FirstFault.{fault_of, first_broken, first_fault, stage_fault}
-use Rattle.oc_linking.specs.Fits.{bytes_of}
-use Rattle.oc_linking.specs.declared.terms.Hint.TheVariants.{Call}
-use Rattle.oc_linking.specs.declared.terms.Keep.{Keep}
-use Rattle.oc_linking.specs.declared.terms.Width.TheVariants.{Eight, Four, One, Two}
-use Rattle.oc_linking.specs.declared.terms.Width.{Width}
+use Rattle.std.proofs.lemmas.{Bool.{eqb-true, or_parts}, Option.{none-some, same_Some, slice_get_within}}
+use Rattle.std.specs.{Option.{option_and_then, option_map, option_map_or}, Prelude.{is_none, is_some}}
+use Rattle.oc_base.specs.{declared.format.Word.TheVariants.{W32, W64}, declared.format.Word.{Word}}
+use Rattle.oc_linking.specs.{FirstFault.{fault_of, first_broken, first_fault, stage_fault}, Fits.{bytes_of}, declared.terms.Hint.TheVariants.{Call}}
+use Rattle.oc_linking.specs.{declared.terms.Keep.{Keep}, declared.terms.Width.TheVariants.{Eight, Four, One, Two}, declared.terms.Width.{Width}}
 use Rattle.oc_macho.specs.Aims.{aim_in, target_in}
 use Rattle.oc_macho.specs.Entries.{begins, can_refer, is_first, item_at, item_with, row_for, taken_entry, taken_reference, target_entry}
-use Rattle.oc_macho.specs.Fields.{FieldParts, field_parts_by}
-use Rattle.oc_macho.specs.Sections.{is_kept}
-use Rattle.oc_macho.specs.Tables.{SectionTable, Tables}
-use Rattle.oc_macho.specs.declared.entries.Item.{Item}
-use Rattle.oc_macho.specs.declared.relocation_info.Reference.{Reference}
-use Rattle.oc_macho.specs.declared.relocation_info.RelocationInfo.{RelocationInfo}
+use Rattle.oc_macho.specs.{Fields.{FieldParts, field_parts_by}, Sections.{is_kept}, Tables.{SectionTable, Tables}, declared.entries.Item.{Item}}
+use Rattle.oc_macho.specs.{declared.relocation_info.Reference.{Reference}, declared.relocation_info.RelocationInfo.{RelocationInfo}}
 use Rattle.oc_macho_read.proofs.SymbolLemmas.{number}
 use Rattle.oc_macho_read.specs.Given.{AreAimed, IsTakeable}
-use Rattle.oc_neutral.specs.Mach.Relocs.{MachRow, entry_among, is_entry, length_of, mach_entries}
-use Rattle.oc_neutral.specs.Normal.{Place}
+use Rattle.oc_neutral.specs.{Mach.Relocs.{MachRow, entry_among, is_entry, length_of, mach_entries}, Normal.{Place}}
 use Rattle.oc_neutral.specs.Rows.{Taken, TakesGotBase, TakesHome, TakesImageBase, TakesPlace, TakesSection, TakesZero, same_taken}
-use Rattle.oc_shelf.proofs.ReadingLaws.FirstsLemmas.{any_false}
-use Rattle.oc_shelf.proofs.ReadingLaws.StageLemmas.{all_hold, clean_at, clean_both, first_fault-range}
+use Rattle.oc_shelf.proofs.{ReadingLaws.FirstsLemmas.{any_false}, ReadingLaws.StageLemmas.{all_hold, clean_at, clean_both, first_fault-range}}
 use Rattle.oc_shelf.specs.Reading.Spans.{meets}
 use Rattle.oc_macho.specs.RelocationFaults as rules
 use Rattle.oc_macho.specs.Aims as aims

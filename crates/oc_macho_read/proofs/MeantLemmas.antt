@@ -1,48 +1,27 @@
 -- What the meaning of a type makes of a field is what its row makes of it.
 use Rattle.std.proofs.Common.{Bool, List, None, Option, Some, ap, arith, cond, false, length, nat_lt, neg_ℤ, pos, refl, replicate, slice_get, subst, sym, true, true≢false, ℕ, ℤ, ◌+◌, ◌-ℤ◌, ◌-◌, ◌<◌, ◌^◌, ◌||◌, ◌∙◌, ◌≡◌, ◌≤◌}
-use Rattle.std.proofs.lemmas.Bool.{ne_eqb}
-use Rattle.std.proofs.lemmas.Option.{none-some, same_Some, slice_get_within}
-use Rattle.std.specs.Option.{option_and_then, option_map, option_map_or, unwrap_or}
-use Rattle.std.specs.Prelude.{IsSome, is_some, ◌+ℤ◌}
+use Rattle.std.proofs.lemmas.{Bool.{ne_eqb}, Option.{none-some, same_Some, slice_get_within}}
+use Rattle.std.specs.{Option.{option_and_then, option_map, option_map_or, unwrap_or}, Prelude.{IsSome, is_some, ◌+ℤ◌}}
 use Rattle.oc_algebra.proofs.Laws.{reduced_same, residue_less}
-use Rattle.oc_algebra.specs.Fields.{extended}
-use Rattle.oc_algebra.specs.Residues.{reduced_number, residue_of}
-use Rattle.oc_base.specs.Numbers.{number_at}
-use Rattle.oc_base.specs.declared.format.Word.TheVariants.{W32, W64}
-use Rattle.oc_base.specs.declared.format.Word.{Word}
-use Rattle.oc_linking.specs.Fits.{bytes_of}
-use Rattle.oc_linking.specs.Numbers.{minus}
-use Rattle.oc_linking.specs.declared.terms.Keep.{Keep}
-use Rattle.oc_linking.specs.declared.terms.Less.{Less}
+use Rattle.oc_algebra.specs.{Fields.{extended}, Residues.{reduced_number, residue_of}}
+use Rattle.oc_base.specs.{Numbers.{number_at}, declared.format.Word.TheVariants.{W32, W64}, declared.format.Word.{Word}}
+use Rattle.oc_linking.specs.{Fits.{bytes_of}, Numbers.{minus}, declared.terms.Keep.{Keep}, declared.terms.Less.{Less}}
 use Rattle.oc_macho_judge.proofs.SectionLemmas.{there}
-use Rattle.oc_macho.specs.Aims.{aim_in, fixed_place, numbered_aim, target_in}
-use Rattle.oc_macho.specs.Entries.{row_for, taken_entry, taken_reference, target_entry}
-use Rattle.oc_macho.specs.Fields.{FieldParts, added_by, counted_of, field_parts_by, given_back, taken_section, number_of}
-use Rattle.oc_macho.specs.Framed.{IsTable, table_at}
-use Rattle.oc_macho.specs.Meanings.{meaning_of, meant_by}
-use Rattle.oc_macho.specs.Sections.{address_of, contents_of, holder_of, is_zerofill}
-use Rattle.oc_macho.specs.Symbols.{binding_of, is_type, offset_of}
-use Rattle.oc_macho.specs.Tables.{SectionTable, Tables}
-use Rattle.oc_macho.specs.declared.constants.TheConstants.{N_ABS}
-use Rattle.oc_macho.specs.declared.entries.Item.{Item}
-use Rattle.oc_macho.specs.declared.meaning.Meaning.{Meaning}
-use Rattle.oc_macho.specs.declared.nlist.Nlist.{Nlist}
-use Rattle.oc_macho.specs.declared.relocation_info.Reference.{Reference}
-use Rattle.oc_macho.specs.declared.relocation_info.RelocationInfo.{RelocationInfo}
+use Rattle.oc_macho.specs.{Aims.{aim_in, fixed_place, numbered_aim, target_in}, Entries.{row_for, taken_entry, taken_reference, target_entry}}
+use Rattle.oc_macho.specs.{Fields.{FieldParts, added_by, counted_of, field_parts_by, given_back, taken_section, number_of}, Framed.{IsTable, table_at}}
+use Rattle.oc_macho.specs.{Meanings.{meaning_of, meant_by}, Sections.{address_of, contents_of, holder_of, is_zerofill}}
+use Rattle.oc_macho.specs.{Symbols.{binding_of, is_type, offset_of}, Tables.{SectionTable, Tables}, declared.constants.TheConstants.{N_ABS}}
+use Rattle.oc_macho.specs.{declared.entries.Item.{Item}, declared.meaning.Meaning.{Meaning}, declared.nlist.Nlist.{Nlist}}
+use Rattle.oc_macho.specs.{declared.relocation_info.Reference.{Reference}, declared.relocation_info.RelocationInfo.{RelocationInfo}}
 use Rattle.oc_macho.specs.declared.section_header.SectionHeader.{SectionHeader}
 use Rattle.oc_macho_read.proofs.AimLemmas.{Carried, IsAim, IsNamed, IsSectional, Own, ToAddress, ToSection, ToSymbol, aim_is, named_is}
-use Rattle.oc_macho_read.proofs.ItemLemmas.{row_width}
-use Rattle.oc_macho_read.proofs.SectionedLemmas.{at_most}
-use Rattle.oc_macho_read.proofs.SymbolLemmas.{each_binding, each_outer}
-use Rattle.oc_macho_read.proofs.TableLemmas.{raw_long}
+use Rattle.oc_macho_read.proofs.{ItemLemmas.{row_width}, SectionedLemmas.{at_most}, SymbolLemmas.{each_binding, each_outer}, TableLemmas.{raw_long}}
 use Rattle.oc_macho_read.specs.Built.{AreRead, symbol_position}
 use Rattle.oc_macho_read.specs.Given.{AreAimed, IsAimed, IsTakeable, addend_meant, aim_for, counted_by, given_meant, less_meant, reloc_as, reloc_by, reloc_meant, reloc_of_item, taken_aim, taken_offset, target_for}
-use Rattle.oc_neutral.specs.Mach.Relocs.{MachRow}
-use Rattle.oc_neutral.specs.Normal.{Place, place_of}
-use Rattle.oc_shows.specs.RowValues.{row_reloc}
-use Rattle.oc_neutral.specs.Rows.{Taken, TakesGotBase, TakesHome, TakesImageBase, TakesPlace, TakesSection, TakesZero}
-use Rattle.oc_neutral.specs.declared.reloc.Reloc.{Reloc}
+use Rattle.oc_neutral.specs.{Mach.Relocs.{MachRow}, Normal.{Place, place_of}}
+use Rattle.oc_neutral.specs.{Rows.{Taken, TakesGotBase, TakesHome, TakesImageBase, TakesPlace, TakesSection, TakesZero}, declared.reloc.Reloc.{Reloc}}
 use Rattle.oc_neutral.specs.declared.reloc.Target.{Target}
+use Rattle.oc_shows.specs.RowValues.{row_reloc}
 use Rattle.oc_linking.specs.declared.terms.Value.TheVariants as value
 use Rattle.oc_linking.specs.declared.terms.Less.TheVariants as less
 use Rattle.oc_neutral.specs.Rows as rows

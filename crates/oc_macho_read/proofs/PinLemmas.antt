@@ -1,20 +1,13 @@
 -- Which symbols are pinned, field by field.
 use Rattle.std.proofs.Common.{Bool, List, None, Option, Some, [], ap, arith, cond, eq-eqb, false, filter, get_or, inl, inr, length, nat_eq, nat_lt, refl, replicate, set, slice_get, subst, suc, sym, take, true, zero, ℕ, ◌&&◌, ◌++◌, ◌+◌, ◌<◌, ◌||◌, ◌∙◌, ◌∷◌, ◌≡◌, ◌≤◌}
-use Rattle.std.proofs.lemmas.Bool.Decides.{nat_tests}
-use Rattle.std.proofs.lemmas.Bool.{cases_eq, ne_eqb}
-use Rattle.std.proofs.lemmas.List.{get_or-set_same, length-set}
+use Rattle.std.proofs.lemmas.{Bool.Decides.{nat_tests}, Bool.{cases_eq, ne_eqb}, List.{get_or-set_same, length-set}}
 use Rattle.std.proofs.Math.Bool.{or-false}
-use Rattle.std.specs.List.{list_any}
-use Rattle.std.specs.Option.{option_map, option_map_or}
+use Rattle.std.specs.{List.{list_any}, Option.{option_map, option_map_or}}
 use Rattle.oc_linking.specs.declared.terms.Keep.{Keep}
 use Rattle.oc_macho_judge.proofs.SectionLemmas.{there}
 use Rattle.oc_macho.specs.Entries.{begins, is_pinned, is_taken_in, item_at, item_with, refers_to, taken_entry, taken_reference, takes_symbol}
-use Rattle.oc_macho.specs.Framed.{table_at}
-use Rattle.oc_macho.specs.Sections.{is_kept}
-use Rattle.oc_macho.specs.Tables.{SectionTable, Tables}
-use Rattle.oc_macho.specs.declared.entries.Item.{Item}
-use Rattle.oc_macho.specs.declared.relocation_info.Reference.{Reference}
-use Rattle.oc_macho.specs.declared.relocation_info.RelocationInfo.{RelocationInfo}
+use Rattle.oc_macho.specs.{Framed.{table_at}, Sections.{is_kept}, Tables.{SectionTable, Tables}, declared.entries.Item.{Item}}
+use Rattle.oc_macho.specs.{declared.relocation_info.Reference.{Reference}, declared.relocation_info.RelocationInfo.{RelocationInfo}}
 use Rattle.oc_macho_read.proofs.SectionedLemmas.{take_all}
 use Rattle.oc_macho_read.specs.Pins.{AreMarks, ArePins, is_pinned_upto, is_taken_upto, marked}
 use Rattle.oc_shelf.proofs.ReadingLaws.FirstsLemmas.{any_more}

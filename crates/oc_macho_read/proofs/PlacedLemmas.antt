@@ -1,18 +1,13 @@
 -- The fields of a section, in the order of their places.
 use Rattle.std.proofs.Common.{Bool, List, None, Option, Some, ap, cond, false, get_or, length, refl, slice_get, subst, sym, true, ℕ, ◌<◌, ◌∙◌, ◌≡◌}
 use Rattle.std.proofs.lemmas.Option.{none-some, same_Some}
-use Rattle.std.specs.List.Sorted.{IsPermutation}
-use Rattle.std.specs.Option.{option_map}
+use Rattle.std.specs.{List.Sorted.{IsPermutation}, Option.{option_map}}
 use Rattle.oc_base.specs.declared.format.Word.{Word}
-use Rattle.oc_macho.specs.Entries.{begins, item_at, item_with}
-use Rattle.oc_macho.specs.Tables.{SectionTable, Tables}
-use Rattle.oc_macho.specs.declared.entries.Item.{Item}
+use Rattle.oc_macho.specs.{Entries.{begins, item_at, item_with}, Tables.{SectionTable, Tables}, declared.entries.Item.{Item}}
 use Rattle.oc_macho.specs.declared.relocation_info.RelocationInfo.{RelocationInfo}
 use Rattle.oc_macho_read.specs.Given.{placed}
 use Rattle.oc_shelf.proofs.ReadingLaws.PlacedLemmas.{among_all, each_placed}
-use Rattle.oc_shelf.specs.Reading.Collected.{collected}
-use Rattle.oc_shelf.specs.Reading.Order.{is_among}
-use Rattle.oc_shelf.specs.declared.reading.order.PlacedEntry.{PlacedEntry}
+use Rattle.oc_shelf.specs.{Reading.Collected.{collected}, Reading.Order.{is_among}, declared.reading.order.PlacedEntry.{PlacedEntry}}
 
 -- where no field begins, none is placed
 pub placed_none : (t : Tables) (c : SectionTable) (k : ℕ) → begins t.word c.relocs k ≡ false → placed t c k ≡ None

@@ -1,30 +1,18 @@
 -- The sections of a file without faults, added one after the other.
 use Rattle.std.proofs.Common.{List, None, Ok, Option, Some, [], ap, arith, cond, false, length, length-take, map, nat_lt, refl, slice_get, subst, suc, sum_by, sym, take, zero, ℕ, ◌++◌, ◌+◌, ◌<◌, ◌∙◌, ◌∷◌, ◌≡◌, ◌≤◌}
-use Rattle.std.proofs.lemmas.Bool.Decides.{nat_tests}
-use Rattle.std.proofs.lemmas.List.FromFn.{length-enumerate_from}
-use Rattle.std.proofs.lemmas.List.Sums.{sum_by-append, sum_by-cons}
-use Rattle.std.proofs.lemmas.List.{length-map, map-append}
-use Rattle.std.proofs.lemmas.Option.{none-some, same_Some, slice_get-map, slice_get_within}
-use Rattle.std.specs.List.{enumerate_from}
-use Rattle.std.specs.Option.{option_map, option_map_or}
-use Rattle.oc_linking.specs.FirstFault.{fault_of, first_broken, stage_fault}
-use Rattle.oc_linking.specs.Numbers.{modulus}
-use Rattle.oc_linking.specs.declared.terms.Kind.TheVariants.{Code, Data, Debug, Exception, Fini, Init, Note, ReadOnly, Zero}
-use Rattle.oc_linking.specs.declared.terms.Kind.{Kind}
+use Rattle.std.proofs.lemmas.{Bool.Decides.{nat_tests}, List.FromFn.{length-enumerate_from}, List.Sums.{sum_by-append, sum_by-cons}}
+use Rattle.std.proofs.lemmas.{List.{length-map, map-append}, Option.{none-some, same_Some, slice_get-map, slice_get_within}}
+use Rattle.std.specs.{List.{enumerate_from}, Option.{option_map, option_map_or}}
+use Rattle.oc_linking.specs.{FirstFault.{fault_of, first_broken, stage_fault}, Numbers.{modulus}}
+use Rattle.oc_linking.specs.{declared.terms.Kind.TheVariants.{Code, Data, Debug, Exception, Fini, Init, Note, ReadOnly, Zero}, declared.terms.Kind.{Kind}}
 use Rattle.oc_macho_judge.proofs.SectionLemmas.{there}
-use Rattle.oc_macho.specs.Framed.{table_at}
-use Rattle.oc_macho.specs.MachHeader.{mach_format}
-use Rattle.oc_macho.specs.Sections.{kind_of, section_of, sections_in}
-use Rattle.oc_macho.specs.Tables.{SectionTable, Tables}
+use Rattle.oc_macho.specs.{Framed.{table_at}, MachHeader.{mach_format}, Sections.{kind_of, section_of, sections_in}, Tables.{SectionTable, Tables}}
 use Rattle.oc_macho.specs.declared.section_header.SectionHeader.{SectionHeader}
 use Rattle.oc_macho_read.specs.Built.{sectioned}
-use Rattle.oc_shows.proofs.BuiltSteps.{within}
-use Rattle.oc_shows.proofs.StartedLaws.{section_more}
-use Rattle.oc_neutral.specs.Building.{is_zero, limit_passed, section_added, size_sum, stored_size, stored_sum}
-use Rattle.oc_neutral.specs.Invariants.{IsMember}
-use Rattle.oc_neutral.specs.KindRules.{same_kind}
-use Rattle.oc_shows.specs.Started.{plain_draft, stored_section}
+use Rattle.oc_shows.proofs.{BuiltSteps.{within}, StartedLaws.{section_more}}
+use Rattle.oc_neutral.specs.{Building.{is_zero, limit_passed, section_added, size_sum, stored_size, stored_sum}, Invariants.{IsMember}, KindRules.{same_kind}}
 use Rattle.oc_neutral.specs.declared.section.Section.{Section}
+use Rattle.oc_shows.specs.Started.{plain_draft, stored_section}
 use Rattle.oc_shelf.proofs.ReadingLaws.StageLemmas.{all_hold, clean_at, clean_both}
 use Rattle.oc_shelf.specs.Reading.Sums.{sum_upto}
 use Rattle.oc_linking.specs.Parts as parts

@@ -2,42 +2,21 @@
 use Rattle.std.proofs.Common.{Bool, List, None, Option, Some, [], ap, bytes_eq, codes, cond, false, map, nat_eq, refl, replicate, slice_get, subst, sym, true, true≢false, ℕ, ◌&&◌, ◌||◌, ◌∙◌, ◌∷◌, ◌≡◌}
 use Rattle.std.proofs.lemmas.Option.{none-some}
 use Rattle.std.specs.List.{enumerate_from}
-use Rattle.oc_base.specs.Formats.{word_for}
-use Rattle.oc_base.specs.declared.fault.Fault.{Fault}
-use Rattle.oc_base.specs.declared.format.Word.TheVariants.{W32, W64}
-use Rattle.oc_base.specs.declared.format.Word.{Word}
-use Rattle.oc_linking.specs.FirstFault.{first_fault, stage_fault}
-use Rattle.oc_linking.specs.Numbers.{or_else}
-use Rattle.oc_linking.specs.declared.terms.Binding.TheVariants.{Weak}
-use Rattle.oc_linking.specs.declared.terms.Keep.{Keep}
+use Rattle.oc_base.specs.{Formats.{word_for}, declared.fault.Fault.{Fault}, declared.format.Word.TheVariants.{W32, W64}, declared.format.Word.{Word}}
+use Rattle.oc_linking.specs.{FirstFault.{first_fault, stage_fault}, Numbers.{or_else}, declared.terms.Binding.TheVariants.{Weak}, declared.terms.Keep.{Keep}}
 use Rattle.oc_linking.specs.declared.terms.Kind.TheVariants.{Code, Data, Debug, Exception, Fini, Init, ReadOnly, Zero}
 use Rattle.oc_macho_judge.proofs.SectionLemmas.{there}
-use Rattle.oc_macho.specs.HeaderFaults.{header_stage}
-use Rattle.oc_macho.specs.MachHeader.{mach_format}
-use Rattle.oc_macho.specs.Rules.{mach_dialect, symbols_in}
-use Rattle.oc_macho.specs.Sections.{contents_of, is_zerofill, kind_of, section_name, section_of, sections_in, segment_name}
-use Rattle.oc_macho.specs.Symbols.{binding_of}
-use Rattle.oc_macho.specs.Tables.{SectionTable, Tables, tables_of}
-use Rattle.oc_macho.specs.declared.nlist.Nlist.{Nlist}
-use Rattle.oc_macho.specs.declared.section_header.SectionHeader.{SectionHeader}
-use Rattle.oc_macho_read.proofs.SectionedLemmas.{section_from}
-use Rattle.oc_macho_read.proofs.StandingLemmas.{free_or_given}
+use Rattle.oc_macho.specs.{HeaderFaults.{header_stage}, MachHeader.{mach_format}, Rules.{mach_dialect, symbols_in}}
+use Rattle.oc_macho.specs.{Sections.{contents_of, is_zerofill, kind_of, section_name, section_of, sections_in, segment_name}, Symbols.{binding_of}}
+use Rattle.oc_macho.specs.{Tables.{SectionTable, Tables, tables_of}, declared.nlist.Nlist.{Nlist}, declared.section_header.SectionHeader.{SectionHeader}}
+use Rattle.oc_macho_read.proofs.{SectionedLemmas.{section_from}, StandingLemmas.{free_or_given}}
 use Rattle.oc_macho_read.proofs.SymbolLemmas.{each_binding, each_outer, from_number, number, stands_at, symbols_are, symbols_numbered}
-use Rattle.oc_macho_read.specs.Adding.{IsClean}
-use Rattle.oc_macho_read.specs.Built.{started}
-use Rattle.oc_macho_read.specs.Given.{given_at}
-use Rattle.oc_macho_read.specs.Shown.{CleanIsShown}
-use Rattle.oc_shows.proofs.BuiltLaws.{built_shows}
-use Rattle.oc_shows.proofs.StartedLaws.{start_is_started}
-use Rattle.oc_neutral.specs.Building.{Draft, is_zero}
-use Rattle.oc_shows.specs.Built.{HasAdded, IsStarted}
-use Rattle.oc_shows.specs.Computed.{computed_symbol, keys_after, keys_in}
-use Rattle.oc_neutral.specs.Invariants.{IsDraft}
-use Rattle.oc_neutral.specs.KindRules.{first_rule, has}
-use Rattle.oc_neutral.specs.Mach.Kinds.{mach_kind, type_of}
-use Rattle.oc_shows.specs.Shows.{Shows}
-use Rattle.oc_shows.specs.Started.{AreShowable, groups_by, plain_draft, start_of, stored_section}
+use Rattle.oc_macho_read.specs.{Adding.{IsClean}, Built.{started}, Given.{given_at}, Shown.{CleanIsShown}}
+use Rattle.oc_shows.proofs.{BuiltLaws.{built_shows}, StartedLaws.{start_is_started}}
+use Rattle.oc_neutral.specs.{Building.{Draft, is_zero}, Invariants.{IsDraft}, KindRules.{first_rule, has}, Mach.Kinds.{mach_kind, type_of}}
 use Rattle.oc_neutral.specs.declared.mach.TheConstants.{S_ATTR_PURE_INSTRUCTIONS, S_ATTR_SOME_INSTRUCTIONS, S_MOD_INIT_FUNC_POINTERS, S_MOD_TERM_FUNC_POINTERS, S_ZEROFILL}
+use Rattle.oc_shows.specs.{Built.{HasAdded, IsStarted}, Computed.{computed_symbol, keys_after, keys_in}, Shows.{Shows}}
+use Rattle.oc_shows.specs.Started.{AreShowable, groups_by, plain_draft, start_of, stored_section}
 use Rattle.oc_linking.specs.Parts as parts
 use Rattle.oc_linking.specs.declared.terms.Fallback.TheVariants as fallback
 use Rattle.oc_macho.specs.Rules as own

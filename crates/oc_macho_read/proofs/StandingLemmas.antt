@@ -1,35 +1,19 @@
 -- The fields of a file without faults, each with the relocation that is given for it.
 use Rattle.std.proofs.Common.{Bool, List, None, Option, Some, [], ap, arith, cond, eq-eqb, false, filter, inl, inr, length, nat_eq, nat_lt, refl, slice_get, subst, suc, sym, true, true≢false, zero, ℕ, ◌&&◌, ◌+◌, ◌<◌, ◌^◌, ◌||◌, ◌∙◌, ◌∷◌, ◌≡◌, ◌≢◌, ◌≤◌, ◌⊎◌}
-use Rattle.std.proofs.lemmas.Bool.Decides.{nat_tests}
-use Rattle.std.proofs.lemmas.Bool.{cases_eq, cases_lt, eqb-true}
-use Rattle.std.proofs.lemmas.Option.{none-some, same_Some, slice_get-map}
-use Rattle.std.specs.List.{list_any}
-use Rattle.std.specs.Option.{option_and_then, option_map, option_map_or, unwrap_or}
+use Rattle.std.proofs.lemmas.{Bool.Decides.{nat_tests}, Bool.{cases_eq, cases_lt, eqb-true}, Option.{none-some, same_Some, slice_get-map}}
+use Rattle.std.specs.{List.{list_any}, Option.{option_and_then, option_map, option_map_or, unwrap_or}}
 use Rattle.oc_base.specs.declared.format.Word.{Word}
-use Rattle.oc_linking.proofs.FirstFaultLaws.{first_upto_none}
-use Rattle.oc_linking.proofs.Upto.{first_upto_from}
-use Rattle.oc_linking.specs.FirstFault.{first_fault}
-use Rattle.oc_linking.specs.Fits.{bytes_of}
-use Rattle.oc_linking.specs.Keeping.{keeps}
-use Rattle.oc_linking.specs.Rules.{Field}
-use Rattle.oc_linking.specs.declared.terms.Keep.{Keep}
+use Rattle.oc_linking.proofs.{FirstFaultLaws.{first_upto_none}, Upto.{first_upto_from}}
+use Rattle.oc_linking.specs.{FirstFault.{first_fault}, Fits.{bytes_of}, Keeping.{keeps}, Rules.{Field}, declared.terms.Keep.{Keep}}
 use Rattle.oc_macho.specs.Entries.{is_pinned, is_taken_in, item_at, refers_to, taken_entry, taken_reference, takes_symbol}
-use Rattle.oc_macho.specs.Fields.{FieldParts, field_of, fields_in, field_parts_by, item_for, number_of}
-use Rattle.oc_macho.specs.Rules.{mach_dialect}
-use Rattle.oc_macho.specs.Sections.{is_kept, section_of, sections_in}
-use Rattle.oc_macho.specs.Tables.{SectionTable, Tables, tables_of}
-use Rattle.oc_macho.specs.declared.entries.Item.{Item}
+use Rattle.oc_macho.specs.{Fields.{FieldParts, field_of, fields_in, field_parts_by, item_for, number_of}, Rules.{mach_dialect}}
+use Rattle.oc_macho.specs.{Sections.{is_kept, section_of, sections_in}, Tables.{SectionTable, Tables, tables_of}, declared.entries.Item.{Item}}
 use Rattle.oc_macho.specs.declared.relocation_info.RelocationInfo.{RelocationInfo}
-use Rattle.oc_macho_read.proofs.FieldLemmas.{item_field}
-use Rattle.oc_macho_read.proofs.ItemLemmas.{IsGoodItem, found_as, found_is, good_item, items_apart, row_width}
-use Rattle.oc_macho_read.proofs.PinLemmas.{refers_symbol}
-use Rattle.oc_macho_read.proofs.SectionedLemmas.{at_most, section_there}
+use Rattle.oc_macho_read.proofs.{FieldLemmas.{item_field}, ItemLemmas.{IsGoodItem, found_as, found_is, good_item, items_apart, row_width}}
+use Rattle.oc_macho_read.proofs.{PinLemmas.{refers_symbol}, SectionedLemmas.{at_most, section_there}}
 use Rattle.oc_macho_read.specs.Given.{given_at, reloc_as, reloc_by}
 use Rattle.oc_shows.specs.Built.{AreApart, AreOfFile, IsField, IsFree, IsGiven}
-use Rattle.oc_neutral.specs.Dialects.{kept_fields}
-use Rattle.oc_neutral.specs.Faces.{shown_symbols}
-use Rattle.oc_neutral.specs.Objects.{Object}
-use Rattle.oc_neutral.specs.declared.reloc.Reloc.{Reloc}
+use Rattle.oc_neutral.specs.{Dialects.{kept_fields}, Faces.{shown_symbols}, Objects.{Object}, declared.reloc.Reloc.{Reloc}}
 use Rattle.oc_shelf.proofs.ReadingLaws.FirstsLemmas.{any_true}
 use Rattle.oc_linking.specs.Parts as parts
 use Rattle.oc_macho.specs.RelocationFaults as faults

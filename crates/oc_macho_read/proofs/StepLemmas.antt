@@ -1,39 +1,24 @@
 -- What is given, section by section and field by field.
 use Rattle.std.proofs.Common.{Bool, List, None, Option, Some, [], ap, arith, cond, false, get_or, inl, inr, length, nat_eq, nat_lt, refl, slice_get, subst, suc, sym, take, true, true≢false, zero, ℕ, ◌&&◌, ◌+◌, ◌<◌, ◌^◌, ◌||◌, ◌∙◌, ◌≡◌, ◌≤◌}
-use Rattle.std.proofs.lemmas.Bool.Decides.{nat_tests}
-use Rattle.std.proofs.lemmas.Bool.{cases_eq, cases_lt}
-use Rattle.std.proofs.lemmas.Option.{none-some, same_Some, slice_get_past}
-use Rattle.std.specs.List.Sorted.{IsPermutation}
-use Rattle.std.specs.Option.{option_and_then, option_map}
-use Rattle.std.specs.Prelude.{IsSome}
+use Rattle.std.proofs.lemmas.{Bool.Decides.{nat_tests}, Bool.{cases_eq, cases_lt}, Option.{none-some, same_Some, slice_get_past}}
+use Rattle.std.specs.{List.Sorted.{IsPermutation}, Option.{option_and_then, option_map}, Prelude.{IsSome}}
 use Rattle.oc_base.specs.declared.format.Word.{Word}
-use Rattle.oc_linking.specs.FirstFault.{first_fault}
-use Rattle.oc_linking.specs.declared.terms.Keep.{Keep}
+use Rattle.oc_linking.specs.{FirstFault.{first_fault}, declared.terms.Keep.{Keep}}
 use Rattle.oc_macho_judge.proofs.SectionLemmas.{there}
-use Rattle.oc_macho.specs.Entries.{begins, item_at}
-use Rattle.oc_macho.specs.Fields.{FieldParts, item_for, number_of}
-use Rattle.oc_macho.specs.Framed.{IsTable, table_at}
-use Rattle.oc_macho.specs.Rules.{mach_dialect}
-use Rattle.oc_macho.specs.Sections.{is_kept}
-use Rattle.oc_macho.specs.Tables.{SectionTable, Tables, tables_of}
-use Rattle.oc_macho.specs.declared.entries.Item.{Item}
+use Rattle.oc_macho.specs.{Entries.{begins, item_at}, Fields.{FieldParts, item_for, number_of}, Framed.{IsTable, table_at}, Rules.{mach_dialect}}
+use Rattle.oc_macho.specs.{Sections.{is_kept}, Tables.{SectionTable, Tables, tables_of}, declared.entries.Item.{Item}}
 use Rattle.oc_macho.specs.declared.section_header.SectionHeader.{SectionHeader}
 use Rattle.oc_macho_read.proofs.ItemLemmas.{IsGoodItem, are_aimed, found_as, found_is, good_item, items_apart}
 use Rattle.oc_macho_read.proofs.PlacedLemmas.{Differ, IsPlacedItem, differ_placed, entry_placed, item_begins, offset_among}
-use Rattle.oc_macho_read.proofs.StandingLemmas.{IsItemAt, item_found, item_none}
-use Rattle.oc_macho_read.specs.Adding.{IsClean, IsReady}
-use Rattle.oc_macho_read.specs.Built.{started}
+use Rattle.oc_macho_read.proofs.{StandingLemmas.{IsItemAt, item_found, item_none}, AddedLemmas.{addable}}
+use Rattle.oc_macho_read.specs.{Adding.{IsClean, IsReady}, Built.{started}}
 use Rattle.oc_macho_read.specs.Given.{AreAimed, given_at, given_before, given_with, placed, reloc_as, reloc_by, reloc_in}
-use Rattle.oc_neutral.specs.Building.{Draft}
+use Rattle.oc_neutral.specs.{Building.{Draft}, declared.reloc.Reloc.{Reloc}}
 use Rattle.oc_shows.specs.Built.{HasAdded, IsStarted}
-use Rattle.oc_neutral.specs.declared.reloc.Reloc.{Reloc}
-use Rattle.oc_shelf.specs.Reading.Collected.{collected}
-use Rattle.oc_shelf.specs.declared.reading.order.PlacedEntry.{PlacedEntry}
+use Rattle.oc_shelf.specs.{Reading.Collected.{collected}, declared.reading.order.PlacedEntry.{PlacedEntry}, Reading.Order.{is_among}}
 use Rattle.oc_macho.specs.RelocationFaults as faults
-use Rattle.oc_macho_read.proofs.AddedLemmas.{addable}
 use Rattle.oc_shows.proofs.AddedLaws.{IsTaken, entry_taken, given_all as all_given, given_passed, lt_next, lt_self, lt_stays, table_done as section_done}
 use Rattle.oc_shelf.proofs.ReadingLaws.PlacedLemmas.{not_among}
-use Rattle.oc_shelf.specs.Reading.Order.{is_among}
 
 -- ... sections
 

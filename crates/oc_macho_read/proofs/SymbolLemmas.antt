@@ -1,30 +1,21 @@
 -- The symbols of a file without faults.
 use Rattle.std.proofs.Common.{Bool, List, None, Option, Some, [], ap, arith, bytes_eq, cond, false, length, nat_eq, nat_lt, not, refl, slice_get, sym, true, true≢false, ℕ, ◌%◌, ◌&&◌, ◌++◌, ◌+◌, ◌-◌, ◌/◌, ◌<◌, ◌^◌, ◌||◌, ◌∙◌, ◌≡◌, ◌≤◌}
 use Rattle.std.proofs.lemmas.Option.{none-some, same_Some, slice_get_within}
-use Rattle.std.specs.Option.{option_and_then, option_map, option_map_or}
-use Rattle.std.specs.Prelude.{is_none, is_some}
-use Rattle.oc_linking.specs.FirstFault.{fault_of, first_broken, stage_fault}
-use Rattle.oc_linking.specs.declared.terms.Binding.TheVariants.{Common, Global, Local, Undefined, Weak}
-use Rattle.oc_linking.specs.declared.terms.Binding.{Binding}
-use Rattle.oc_linking.specs.declared.terms.Keep.{Keep}
-use Rattle.oc_linking.specs.declared.terms.Mark.TheVariants.{NoType}
+use Rattle.std.specs.{Option.{option_and_then, option_map, option_map_or}, Prelude.{is_none, is_some}}
+use Rattle.oc_linking.specs.{FirstFault.{fault_of, first_broken, stage_fault}, declared.terms.Binding.TheVariants.{Common, Global, Local, Undefined, Weak}}
+use Rattle.oc_linking.specs.{declared.terms.Binding.{Binding}, declared.terms.Keep.{Keep}, declared.terms.Mark.TheVariants.{NoType}}
 use Rattle.oc_linking.specs.declared.terms.Visibility.TheVariants.{Default, Hidden}
-use Rattle.oc_macho.specs.Entries.{is_pinned}
-use Rattle.oc_macho.specs.Rules.{symbols_in}
-use Rattle.oc_macho.specs.Sections.{address_of, header_numbered}
+use Rattle.oc_macho.specs.{Entries.{is_pinned}, Rules.{symbols_in}, Sections.{address_of, header_numbered}}
 use Rattle.oc_macho.specs.Symbols.{binding_of, external_binding, is_carried, is_external, is_own, is_stab, is_type, name_at, name_of, offset_of, outer_binding, symbol_of, value_of}
-use Rattle.oc_macho.specs.Tables.{SectionTable, Tables}
-use Rattle.oc_macho.specs.declared.constants.TheConstants.{N_ABS, N_PEXT, N_SECT, N_UNDF, N_WEAK_DEF, N_WEAK_REF}
-use Rattle.oc_macho.specs.declared.nlist.Nlist.{Nlist}
-use Rattle.oc_macho.specs.declared.section_header.SectionHeader.{SectionHeader}
+use Rattle.oc_macho.specs.{Tables.{SectionTable, Tables}, declared.constants.TheConstants.{N_ABS, N_PEXT, N_SECT, N_UNDF, N_WEAK_DEF, N_WEAK_REF}}
+use Rattle.oc_macho.specs.{declared.nlist.Nlist.{Nlist}, declared.section_header.SectionHeader.{SectionHeader}}
 use Rattle.oc_shelf.proofs.ReadingLaws.NumberedLemmas.{one_position, stands_numbered}
-use Rattle.oc_macho_read.proofs.SectionedLemmas.{at_most, sound_section}
-use Rattle.oc_macho_read.specs.Built.{IsSound, symbol_as, symbol_at}
-use Rattle.oc_shows.specs.Computed.{computed_symbol, placed_binding, position_of}
-use Rattle.oc_neutral.specs.KindRules.{has}
-use Rattle.oc_shows.specs.Shows.{AreNumbered}
 use Rattle.oc_shelf.proofs.ReadingLaws.CollectedLemmas.{IsFrom, collected-at, collected-from, collected-ordered, collected-same, numbered}
 use Rattle.oc_shelf.proofs.ReadingLaws.StageLemmas.{all_hold, clean_at, clean_both}
+use Rattle.oc_macho_read.proofs.SectionedLemmas.{at_most, sound_section}
+use Rattle.oc_macho_read.specs.Built.{IsSound, symbol_as, symbol_at}
+use Rattle.oc_shows.specs.{Computed.{computed_symbol, placed_binding, position_of}, Shows.{AreNumbered}}
+use Rattle.oc_neutral.specs.KindRules.{has}
 use Rattle.oc_shelf.specs.Reading.Collected.{collected}
 use Rattle.oc_linking.specs.Parts as parts
 use Rattle.oc_linking.specs.declared.terms.Fallback.TheVariants as fallback

@@ -5,18 +5,14 @@ use Rattle.std.specs.Option.{option_map, option_map_or}
 use Rattle.oc_base.specs.declared.format.Word.{Word}
 use Rattle.oc_linking.specs.FirstFault.{stage_fault}
 use Rattle.oc_macho.proofs.FrameLemmas.{size_is}
-use Rattle.oc_macho_judge.proofs.JudgingLemmas.{IsPlaced, section_placed}
-use Rattle.oc_macho_judge.proofs.SectionLemmas.{there}
-use Rattle.oc_macho.specs.Framed.{IsTable, table_at}
-use Rattle.oc_macho.specs.SectionHeader.{section_header_at, section_header_size}
-use Rattle.oc_macho.specs.Sections.{contents_of, is_zerofill, kind_of, section_of}
-use Rattle.oc_macho.specs.SegmentCommand.{segment_command_at}
+use Rattle.oc_macho_judge.proofs.{JudgingLemmas.{IsPlaced, section_placed}, SectionLemmas.{there}}
+use Rattle.oc_macho.specs.{Framed.{IsTable, table_at}, SectionHeader.{section_header_at, section_header_size}}
+use Rattle.oc_macho.specs.{Sections.{contents_of, is_zerofill, kind_of, section_of}, SegmentCommand.{segment_command_at}}
 use Rattle.oc_macho.specs.Tables.{SectionTable, Tables, headers_place, section_table, sections_by, segment_place, tables_of}
 use Rattle.oc_macho.specs.declared.section_header.SectionHeader.{SectionHeader}
 use Rattle.oc_macho_read.proofs.SectionedLemmas.{stored_at}
 use Rattle.oc_macho_read.specs.Built.{AreRead}
-use Rattle.oc_neutral.specs.Building.{is_zero}
-use Rattle.oc_neutral.specs.Invariants.{HasItsBytes}
+use Rattle.oc_neutral.specs.{Building.{is_zero}, Invariants.{HasItsBytes}}
 use Rattle.oc_shelf.specs.Reading.Rows.{rows}
 use Rattle.oc_macho.specs.SectionFaults as rules
 

@@ -1,53 +1,28 @@
 -- What is built of a file without faults can be finished.
 use Rattle.std.proofs.Common.{Bool, List, None, Option, Some, [], ap, arith, bytes_eq, cond, drop, false, length, map, not, refl, slice_get, subst, sym, true, true≢false, ℕ, ◌%◌, ◌&&◌, ◌+◌, ◌-◌, ◌/◌, ◌<◌, ◌^◌, ◌||◌, ◌∙◌, ◌∷◌, ◌≡◌, ◌≢◌}
 use Rattle.std.proofs.lemmas.Option.{none-some, slice_get-get_or, slice_get-map, slice_get_within}
-use Rattle.std.specs.List.{AllByRecursion, enumerate_from}
-use Rattle.std.specs.Option.{option_map, option_map_or, unwrap_or}
-use Rattle.oc_base.specs.Formats.{word_for}
-use Rattle.oc_base.specs.declared.format.Word.TheVariants.{W32, W64}
-use Rattle.oc_base.specs.declared.format.Word.{Word}
-use Rattle.oc_linking.specs.Numbers.{modulus}
+use Rattle.std.specs.{List.{AllByRecursion, enumerate_from}, Option.{option_map, option_map_or, unwrap_or}}
+use Rattle.oc_base.specs.{Formats.{word_for}, declared.format.Word.TheVariants.{W32, W64}, declared.format.Word.{Word}}
+use Rattle.oc_linking.specs.{Numbers.{modulus}, declared.terms.Keep.{Keep}}
 use Rattle.oc_chains.specs.declared.field.Field.{Field}
-use Rattle.oc_linking.specs.declared.terms.Keep.{Keep}
-use Rattle.oc_macho.specs.Aims.{aim_in}
-use Rattle.oc_macho.specs.Entries.{is_pinned, target_entry}
-use Rattle.oc_macho.specs.Fields.{taken_section}
-use Rattle.oc_macho.specs.MachHeader.{mach_format}
-use Rattle.oc_macho.specs.Rules.{mach_dialect, symbols_in}
+use Rattle.oc_macho.specs.{Aims.{aim_in}, Entries.{is_pinned, target_entry}, Fields.{taken_section}, MachHeader.{mach_format}, Rules.{mach_dialect, symbols_in}}
 use Rattle.oc_macho.specs.Sections.{section_of, sections_in}
 use Rattle.oc_macho.specs.Symbols.{binding_of, is_carried, is_external, is_own, is_stab, is_type, name_at, name_of, offset_of, value_of}
-use Rattle.oc_macho.specs.Tables.{SectionTable, Tables, tables_of}
-use Rattle.oc_macho.specs.declared.constants.TheConstants.{N_ABS, N_SECT, N_UNDF}
-use Rattle.oc_macho.specs.declared.nlist.Nlist.{Nlist}
+use Rattle.oc_macho.specs.{Tables.{SectionTable, Tables, tables_of}, declared.constants.TheConstants.{N_ABS, N_SECT, N_UNDF}, declared.nlist.Nlist.{Nlist}}
 use Rattle.oc_macho.specs.declared.relocation_info.Reference.{Reference}
-use Rattle.oc_macho_read.proofs.AddedLemmas.{symbols_same}
-use Rattle.oc_macho_read.proofs.AimLemmas.{Carried, IsAim, IsNamed, Own, ToAddress, ToSection, ToSymbol, aim_is}
-use Rattle.oc_macho_read.proofs.CompleteLemmas.{leaves_blanks, readable, strings_bytes, symbol_small}
-use Rattle.oc_macho_read.proofs.ItemLemmas.{call_row, found_as}
-use Rattle.oc_shelf.proofs.ReadingLaws.ByteLemmas.{all_drop, all_text}
-use Rattle.oc_macho_read.proofs.SectionedLemmas.{section_from, section_there, sound_section}
-use Rattle.oc_macho_read.proofs.ShownLemmas.{built_is_shown, is_started}
+use Rattle.oc_macho_read.proofs.{AddedLemmas.{symbols_same}, AimLemmas.{Carried, IsAim, IsNamed, Own, ToAddress, ToSection, ToSymbol, aim_is}}
+use Rattle.oc_macho_read.proofs.{CompleteLemmas.{leaves_blanks, readable, strings_bytes, symbol_small}, ItemLemmas.{call_row, found_as}}
+use Rattle.oc_macho_read.proofs.{SectionedLemmas.{section_from, section_there, sound_section}, ShownLemmas.{built_is_shown, is_started}}
 use Rattle.oc_macho_read.proofs.StandingLemmas.{given_same, given_standing}
 use Rattle.oc_macho_read.proofs.SymbolLemmas.{IsSoundSymbol, as_computed, as_part, carried_at, each_binding, each_outer, from_number, has_home, known_section, left_at, local_defined, not_stab, offset_low, sound_symbol, stands_at, symbol_stands, symbols_are, symbols_numbered}
-use Rattle.oc_macho_read.specs.Adding.{IsClean}
-use Rattle.oc_macho_read.specs.Built.{started}
-use Rattle.oc_macho_read.specs.Given.{given_at, target_for}
-use Rattle.oc_shows.proofs.BuiltWhole.{built_is_complete, built_is_readable}
-use Rattle.oc_shows.proofs.StartedLaws.{fieldless_at}
-use Rattle.oc_neutral.specs.Building.{Draft}
-use Rattle.oc_shows.specs.Built.{HasAdded, IsStarted}
-use Rattle.oc_shows.specs.Computed.{computed_symbol, position_of}
-use Rattle.oc_neutral.specs.Faces.{number_of}
-use Rattle.oc_shows.specs.Finished.{AreFinal}
+use Rattle.oc_shelf.proofs.{ReadingLaws.ByteLemmas.{all_drop, all_text}, ReadingLaws.CollectedLemmas.{all_mapped}}
+use Rattle.oc_macho_read.specs.{Adding.{IsClean}, Built.{started}, Given.{given_at, target_for}}
+use Rattle.oc_shows.proofs.{BuiltWhole.{built_is_complete, built_is_readable}, StartedLaws.{fieldless_at}}
+use Rattle.oc_neutral.specs.{Building.{Draft}, Faces.{number_of}}
 use Rattle.oc_neutral.specs.Invariants.{AreBegun, AreBytes, HasOffset, IsAlign, IsBinding, IsComplete, IsDraft, IsHinted, IsOriginal, IsSymbol, IsValue, NamesOriginal, groups_of}
-use Rattle.oc_neutral.specs.Objects.{Object}
-use Rattle.oc_shows.specs.Readable.{IsReadable}
-use Rattle.oc_neutral.specs.Rows.{Taken}
-use Rattle.oc_shows.specs.Shows.{Shows}
+use Rattle.oc_neutral.specs.{Objects.{Object}, Rows.{Taken}, declared.reloc.Reloc.{Reloc}, declared.section.Section.{Section}, declared.symbol.Symbol.{Symbol}}
+use Rattle.oc_shows.specs.{Built.{HasAdded, IsStarted}, Computed.{computed_symbol, position_of}, Finished.{AreFinal}, Readable.{IsReadable}, Shows.{Shows}}
 use Rattle.oc_shows.specs.Started.{stored_section}
-use Rattle.oc_neutral.specs.declared.reloc.Reloc.{Reloc}
-use Rattle.oc_neutral.specs.declared.section.Section.{Section}
-use Rattle.oc_neutral.specs.declared.symbol.Symbol.{Symbol}
 use Rattle.oc_shelf.specs.Reading.Texts.{text_at}
 use Rattle.oc_linking.specs.Parts as parts
 use Rattle.oc_linking.specs.declared.terms.Value.TheVariants as value
@@ -55,7 +30,6 @@ use Rattle.oc_neutral.specs.Rows as rows
 use Rattle.oc_macho.specs.Aims as aims
 use Rattle.oc_macho.specs.declared.relocation_info.Reference.TheVariants as reference
 use Rattle.oc_macho_read.specs.Given as given
-use Rattle.oc_shelf.proofs.ReadingLaws.CollectedLemmas.{all_mapped}
 
 groups_none : (xs : List (ℕ × SectionTable)) → AreBegun 0 0 (groups_of (map (stored_section []) (map section_of xs)))
 unfolding section_of

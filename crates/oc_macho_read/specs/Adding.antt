@@ -1,15 +1,11 @@
 -- What is known while the relocations of a file without faults are added (our profile).
 use Rattle.std.specs.Prelude.{◌≡◌, ℕ, List, length, Option, None}
 use Rattle.oc_base.specs.declared.format.Word.{Word}
-use Rattle.oc_linking.specs.declared.terms.Keep.{Keep}
-use Rattle.oc_linking.specs.FirstFault.{first_fault, stage_fault}
+use Rattle.oc_linking.specs.{declared.terms.Keep.{Keep}, FirstFault.{first_fault, stage_fault}}
 use Rattle.oc_shows.specs.Built.{IsStarted}
 use Rattle.oc_neutral.specs.Invariants.{AreBytes}
 use Rattle.oc_shelf.specs.Reading.Slots.{AreSlots}
-use Rattle.oc_macho.specs.Tables.{Tables, tables_of}
-use Rattle.oc_macho.specs.SectionFaults.{section_stage}
-use Rattle.oc_macho.specs.SymbolFaults.{symbol_stage}
-use Rattle.oc_macho.specs.RelocationFaults.{relocation_stages}
+use Rattle.oc_macho.specs.{Tables.{Tables, tables_of}, SectionFaults.{section_stage}, SymbolFaults.{symbol_stage}, RelocationFaults.{relocation_stages}}
 use Rattle.oc_macho.specs.Rules.{mach_dialect}
 use Rattle.oc_macho_read.specs.Built.{started, symbol_position}
 

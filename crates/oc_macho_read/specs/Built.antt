@@ -2,26 +2,14 @@
 use Rattle.std.specs.Prelude.{◌≡◌, ℕ, ◌≤◌, Bool, true, false, ◌&&◌, if◌then◌else◌, List, [], length, map, take, slice_get, Option}
 use Rattle.std.specs.Option.{option_and_then, option_map}
 use Rattle.oc_base.specs.declared.format.Word.{Word}
-use Rattle.oc_linking.specs.declared.terms.Keep.{Keep}
-use Rattle.oc_linking.specs.declared.terms.Mark.TheVariants.{NoType}
-use Rattle.oc_linking.specs.declared.terms.Visibility.TheVariants.{Default, Hidden}
+use Rattle.oc_linking.specs.{declared.terms.Keep.{Keep}, declared.terms.Mark.TheVariants.{NoType}, declared.terms.Visibility.TheVariants.{Default, Hidden}}
 use Rattle.oc_linking.specs.Parts as parts
-use Rattle.oc_neutral.specs.declared.symbol.Symbol.{Symbol}
-use Rattle.oc_neutral.specs.Building.{Draft}
-use Rattle.oc_shows.specs.Computed.{computed_symbol, position_of}
-use Rattle.oc_neutral.specs.Invariants.{AreBytes}
-use Rattle.oc_neutral.specs.KindRules.{has}
-use Rattle.oc_shows.specs.Started.{plain_draft, stored_section}
+use Rattle.oc_neutral.specs.{declared.symbol.Symbol.{Symbol}, Building.{Draft}, Invariants.{AreBytes}, KindRules.{has}}
+use Rattle.oc_shows.specs.{Computed.{computed_symbol, position_of}, Started.{plain_draft, stored_section}}
 use Rattle.oc_shelf.specs.Reading.Collected.{collected}
-use Rattle.oc_macho.specs.declared.constants.TheConstants.{N_PEXT, N_SECT}
-use Rattle.oc_macho.specs.declared.nlist.Nlist.{Nlist}
-use Rattle.oc_macho.specs.MachHeader.{mach_format}
-use Rattle.oc_macho.specs.Tables.{Tables, tables_of}
-use Rattle.oc_macho.specs.Sections.{sections_in}
-use Rattle.oc_macho.specs.Symbols.{binding_of, is_external, is_type, name_of, offset_of, symbol_of}
-use Rattle.oc_macho.specs.SymbolFaults.{is_odd}
-use Rattle.oc_macho.specs.Entries.{is_pinned}
-use Rattle.oc_macho.specs.Rules.{symbols_in}
+use Rattle.oc_macho.specs.{declared.constants.TheConstants.{N_PEXT, N_SECT}, declared.nlist.Nlist.{Nlist}, MachHeader.{mach_format}, Tables.{Tables, tables_of}}
+use Rattle.oc_macho.specs.{Sections.{sections_in}, Symbols.{binding_of, is_external, is_type, name_of, offset_of, symbol_of}, SymbolFaults.{is_odd}}
+use Rattle.oc_macho.specs.{Entries.{is_pinned}, Rules.{symbols_in}}
 
 -- the tables are those of a file
 pub record AreRead (t : Tables) : Type 0 where

@@ -1,37 +1,21 @@
 -- The relocation that is given to the Builder for each field, and those that are given for a file (our profile).
 use Rattle.std.specs.Prelude.{◌≡◌, ℕ, ◌+◌, ◌-◌, ◌&&◌, ◌||◌, nat_eq, nat_lt, if◌then◌else◌, ℤ, pos, ◌+ℤ◌, ◌-ℤ◌, List, slice_get, Option, Some, None}
 use Rattle.std.specs.Option.{option_map, option_map_or, option_and_then, is_some, unwrap_or}
-use Rattle.oc_base.specs.declared.format.Word.{Word}
-use Rattle.oc_base.specs.Numbers.{number_at}
-use Rattle.oc_linking.specs.Fits.{bytes_of}
-use Rattle.oc_linking.specs.declared.terms.Keep.{Keep}
-use Rattle.oc_linking.specs.declared.terms.Less.{Less}
+use Rattle.oc_base.specs.{declared.format.Word.{Word}, Numbers.{number_at}}
+use Rattle.oc_linking.specs.{Fits.{bytes_of}, declared.terms.Keep.{Keep}, declared.terms.Less.{Less}}
 use Rattle.oc_linking.specs.declared.terms.Less.TheVariants as less
-use Rattle.oc_algebra.specs.Fields.{extended}
-use Rattle.oc_algebra.specs.Residues.{reduced_number}
-use Rattle.oc_shows.specs.Built.{RelocMap}
-use Rattle.oc_neutral.specs.Normal.{Place}
-use Rattle.oc_neutral.specs.declared.reloc.Reloc.{Reloc}
-use Rattle.oc_neutral.specs.declared.reloc.Target.{Target}
+use Rattle.oc_algebra.specs.{Fields.{extended}, Residues.{reduced_number}}
+use Rattle.oc_shows.specs.{Built.{RelocMap}, RowValues.{row_reloc}}
+use Rattle.oc_neutral.specs.{Normal.{Place}, declared.reloc.Reloc.{Reloc}, declared.reloc.Target.{Target}}
 use Rattle.oc_neutral.specs.declared.reloc.Target.TheVariants as target
-use Rattle.oc_shows.specs.RowValues.{row_reloc}
-use Rattle.oc_shelf.specs.declared.reading.order.PlacedEntry.{PlacedEntry}
-use Rattle.oc_macho.specs.declared.entries.Item.{Item}
-use Rattle.oc_macho.specs.declared.meaning.Meaning.{Meaning}
-use Rattle.oc_macho.specs.declared.nlist.Nlist.{Nlist}
-use Rattle.oc_macho.specs.declared.relocation_info.Reference.{Reference}
+use Rattle.oc_shelf.specs.{declared.reading.order.PlacedEntry.{PlacedEntry}, Reading.Order.{is_among}}
+use Rattle.oc_macho.specs.{declared.entries.Item.{Item}, declared.meaning.Meaning.{Meaning}, declared.nlist.Nlist.{Nlist}}
+use Rattle.oc_macho.specs.{declared.relocation_info.Reference.{Reference}, Tables.{SectionTable, Tables}}
+use Rattle.oc_macho.specs.{Sections.{address_of, contents_of, holder_of, is_kept}, Symbols.{offset_of}, Entries.{item_at, taken_reference, target_entry}}
+use Rattle.oc_macho.specs.{Aims.{aim_in}, RelocationFaults.{beyond}, Fields.{FieldParts, added_by, field_parts_by, item_for, number_of, taken_section}}
 use Rattle.oc_macho.specs.declared.relocation_info.Reference.TheVariants as reference
-use Rattle.oc_macho.specs.Tables.{SectionTable, Tables}
-use Rattle.oc_macho.specs.Sections.{address_of, contents_of, holder_of, is_kept}
-use Rattle.oc_macho.specs.Symbols.{offset_of}
-use Rattle.oc_macho.specs.Entries.{item_at, taken_reference, target_entry}
 use Rattle.oc_macho.specs.Aims as aims
-use Rattle.oc_macho.specs.Aims.{aim_in}
-use Rattle.oc_macho.specs.RelocationFaults.{beyond}
-use Rattle.oc_macho.specs.Fields.{FieldParts, added_by, field_parts_by, item_for, number_of, taken_section}
-use Rattle.oc_macho_read.specs.declared.aims.Aim.{Aim}
-use Rattle.oc_macho_read.specs.Built.{symbol_position}
-use Rattle.oc_shelf.specs.Reading.Order.{is_among}
+use Rattle.oc_macho_read.specs.{declared.aims.Aim.{Aim}, Built.{symbol_position}}
 
 -- ... targets
 

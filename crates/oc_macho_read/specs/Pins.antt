@@ -1,14 +1,10 @@
 -- Symbols whose addresses are taken (Mach-O reference, "Relocation Data Structures"; our profile).
 use Rattle.std.specs.Prelude.{◌≡◌, ℕ, ◌<◌, Bool, true, false, nat_lt, if◌then◌else◌, List, length, take, filter, slice_index_or, slice_set, Option, Some, None}
-use Rattle.std.specs.List.{list_any}
-use Rattle.std.specs.Option.{option_map_or}
+use Rattle.std.specs.{List.{list_any}, Option.{option_map_or}}
 use Rattle.oc_linking.specs.declared.terms.Keep.{Keep}
 use Rattle.oc_shelf.specs.Reading.Firsts.{any_upto}
-use Rattle.oc_macho.specs.declared.relocation_info.Reference.{Reference}
-use Rattle.oc_macho.specs.declared.relocation_info.Reference.TheVariants.{Symbol, Section, Address}
-use Rattle.oc_macho.specs.Tables.{SectionTable, Tables}
-use Rattle.oc_macho.specs.Sections.{is_kept}
-use Rattle.oc_macho.specs.Entries.{is_pinned, is_taken_in, item_at, takes_symbol}
+use Rattle.oc_macho.specs.{declared.relocation_info.Reference.{Reference}, declared.relocation_info.Reference.TheVariants.{Symbol, Section, Address}}
+use Rattle.oc_macho.specs.{Tables.{SectionTable, Tables}, Sections.{is_kept}, Entries.{is_pinned, is_taken_in, item_at, takes_symbol}}
 
 -- the marks are those of a test on the numbers of symbols
 pub record AreMarks (t : Tables) (test : ℕ → Bool) (marks : List Bool) : Type 0 where

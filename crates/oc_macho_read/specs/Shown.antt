@@ -1,16 +1,11 @@
 -- What a file shows that has no fault (Mach-O reference; our profile).
 use Rattle.std.specs.Prelude.{◌≡◌, ℕ, List, None, refl}
-use Rattle.oc_base.specs.declared.format.Word.{Word}
-use Rattle.oc_base.specs.declared.format.Word.TheVariants.{W32, W64}
+use Rattle.oc_base.specs.{declared.format.Word.{Word}, declared.format.Word.TheVariants.{W32, W64}}
 use Rattle.oc_linking.specs.declared.terms.Keep.{Keep}
-use Rattle.oc_neutral.specs.Building.{Draft}
-use Rattle.oc_shows.specs.Built.{HasAdded, IsStarted}
-use Rattle.oc_shows.specs.Shows.{Shows}
-use Rattle.oc_neutral.specs.Dialects.{IsDialect}
-use Rattle.oc_macho.specs.Tables.{tables_of}
-use Rattle.oc_macho.specs.Rules.{fault_of, mach_dialect}
-use Rattle.oc_macho_read.specs.Built.{started}
-use Rattle.oc_macho_read.specs.Given.{given_at}
+use Rattle.oc_neutral.specs.{Building.{Draft}, Dialects.{IsDialect}}
+use Rattle.oc_shows.specs.{Built.{HasAdded, IsStarted}, Shows.{Shows}}
+use Rattle.oc_macho.specs.{Tables.{tables_of}, Rules.{fault_of, mach_dialect}}
+use Rattle.oc_macho_read.specs.{Built.{started}, Given.{given_at}}
 
 -- a file without a fault shows what is built of its sections and symbols, with the relocations of its entries
 abbrev pub CleanIsShown : Type 0

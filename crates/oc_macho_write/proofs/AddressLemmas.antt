@@ -1,23 +1,15 @@
 -- Sections as they get their addresses: those with bytes in the file, and behind them those without.
 use Rattle.std.proofs.Common.{◌≡◌, ℕ, suc, ◌+◌, ◌^◌, ◌<◌, ◌≤◌, Bool, true, false, true≢false, not, cond, nat_eq, List, [], ◌∷◌, ◌++◌, length, drop, set, get_or, Some, refl, sym, ◌∙◌, ap, arith}
 use mathlib.Core.Bool.{beq}
-use Rattle.std.specs.Prelude.{slice_get, find}
-use Rattle.std.specs.List.{enumerate_from, filter}
-use Rattle.std.specs.Option.{option_map_or}
-use Rattle.std.proofs.lemmas.Bool.{eqb-true, eq-eqb}
-use Rattle.std.proofs.lemmas.List.{drop_all, get_or-set_same, get_or-set_other, length-set}
-use Rattle.std.proofs.lemmas.Option.{same_Some, slice_get_within}
+use Rattle.std.specs.{Prelude.{slice_get, find}, List.{enumerate_from, filter}, Option.{option_map_or}}
+use Rattle.std.proofs.lemmas.{Bool.{eqb-true, eq-eqb}, List.{drop_all, get_or-set_same, get_or-set_other, length-set}, Option.{same_Some, slice_get_within}}
 use Rattle.oc_base.specs.declared.format.Word.{Word}
-use Rattle.oc_neutral.specs.declared.section.Section.{Section}
-use Rattle.oc_neutral.specs.Objects.{Object}
-use Rattle.oc_neutral.proofs.Positions.{there_at}
-use Rattle.oc_neutral.proofs.FieldLists.{drop_here}
+use Rattle.oc_neutral.specs.{declared.section.Section.{Section}, Objects.{Object}}
+use Rattle.oc_neutral.proofs.{Positions.{there_at}, FieldLists.{drop_here}}
 use Rattle.oc_shelf.specs.Writing.Parts.{Laid, laid, laid_end, aligned}
 use Rattle.oc_macho_file.specs.Addresses.{Numbered, address_of, blank_sections, is_at, is_blank, memory_end, section_begin, size_of, stored_end, stored_sections}
-use Rattle.oc_macho_file.proofs.AddressLaws.{address_low, memory_low, section_rises}
-use Rattle.oc_macho_file.proofs.CodedLaws.{IsForMach}
-use Rattle.oc_macho_write.specs.Addresses.{is_of, place_or, those, those_end, those_laid}
-use Rattle.oc_macho_write.specs.Values.{AreAddresses}
+use Rattle.oc_macho_file.proofs.{AddressLaws.{address_low, memory_low, section_rises}, CodedLaws.{IsForMach}}
+use Rattle.oc_macho_write.specs.{Addresses.{is_of, place_or, those, those_end, those_laid}, Values.{AreAddresses}}
 use Rattle.oc_shelf.proofs.WritingLaws.MemberLemmas.{of_enumerated, of_filter}
 
 -- ... the place of what passes a test

@@ -1,50 +1,28 @@
 -- What parts hold, as a plan has them, is what they hold in the canonical file.
 use Rattle.std.proofs.Common.{◌≡◌, ℕ, ◌+◌, ◌-◌, ◌*◌, ◌^◌, ◌<◌, zero, suc, List, [], ◌∷◌, ◌++◌, length, map, flat_map, replicate, get_or, Option, Some, None, refl, sym, ◌∙◌, ap, subst, append_assoc, arith, Vec, Global}
-use Rattle.std.specs.Prelude.{slice_get}
-use Rattle.std.specs.List.{enumerate_from}
-use Rattle.std.specs.Option.{option_map}
-use Rattle.std.proofs.lemmas.List.{length-append, length-map, length-replicate}
-use Rattle.std.proofs.lemmas.List.FromFn.{length-enumerate_from}
+use Rattle.std.specs.{Prelude.{slice_get}, List.{enumerate_from}, Option.{option_map}}
+use Rattle.std.proofs.lemmas.{List.{length-append, length-map, length-replicate}, List.FromFn.{length-enumerate_from}}
 use Rattle.std.proofs.lemmas.Option.{get_or_from_slice_get, none-some, same_Some, slice_get-get_or, slice_get_within}
-use Rattle.oc_base.specs.declared.format.Word.{Word}
-use Rattle.oc_base.specs.Numbers.{bytes_of_number}
-use Rattle.oc_neutral.specs.declared.section.Section.{Section}
-use Rattle.oc_neutral.specs.Objects.{Object}
-use Rattle.oc_shelf.specs.Writing.Packed.{packed}
+use Rattle.oc_base.specs.{declared.format.Word.{Word}, Numbers.{bytes_of_number}}
+use Rattle.oc_neutral.specs.{declared.section.Section.{Section}, Objects.{Object}}
+use Rattle.oc_shelf.specs.{Writing.Packed.{packed}, Writing.Parts.{aligned, table_of, HaveSize}}
 use Rattle.oc_neutral.proofs.Positions.{there_at}
-use Rattle.oc_shelf.specs.Writing.Parts.{aligned, table_of, HaveSize}
-use Rattle.oc_shelf.proofs.WritingLaws.PartLemmas.{aligned_rises}
-use Rattle.oc_macho.specs.Nlist.{nlist_size}
-use Rattle.oc_shelf.proofs.WritingLaws.MemberLemmas.{of_map, member_map}
-use Rattle.oc_strings.specs.Tables.{StringTable}
-use Rattle.oc_macho.specs.declared.constants.TheConstants.{LC_DYSYMTAB}
-use Rattle.oc_macho.specs.declared.load_command.TheConstants.{DYSYMTAB_COMMAND_SIZE}
-use Rattle.oc_macho.specs.declared.relocation_info.RelocationInfo.{RelocationInfo}
-use Rattle.oc_macho.specs.MachHeader.{address_size}
-use Rattle.oc_macho.specs.SectionHeader.{section_header_size}
-use Rattle.oc_macho.specs.SegmentCommand.{segment_number}
-use Rattle.oc_macho.specs.declared.section_header.SectionHeader.{SectionHeader}
-use Rattle.oc_macho_file.specs.Bodies.{raw_of}
-use Rattle.oc_macho_file.specs.Canonical.{part_bytes, segment_numbers, section_headers, dysymtab_numbers, words}
-use Rattle.oc_macho_file.specs.Layout as layout
-use Rattle.oc_macho_file.specs.Layout.{filled, relocs_of, parts_of, segment_length, string_table, strings_of}
-use Rattle.oc_macho_file.specs.Lines.{lines_of, inner_lines, defined_lines, undefined_lines}
-use Rattle.oc_macho.specs.Structures.{section_bytes, nlist_bytes, relocation_bytes, mach_header_bytes, symtab_bytes}
-use Rattle.oc_macho_file.specs.Symbols.{line_entry}
-use Rattle.oc_macho_file.proofs.CodedLaws.{IsForMach}
-use Rattle.oc_macho_file.proofs.CountLaws.{few_lines}
-use Rattle.oc_macho_file.proofs.PartLaws.{header_sized}
-use Rattle.oc_macho.specs.declared.structures.Dysymtab.{Dysymtab}
-use Rattle.oc_macho_write.specs.declared.bodies.Bodies.{Bodies}
-use Rattle.oc_macho_write.specs.declared.heads.Heads.{Heads}
-use Rattle.oc_macho_write.specs.declared.parts.Part.{Part}
-use Rattle.oc_macho_write.specs.declared.parts.Part.TheVariants as part
-use Rattle.oc_macho_write.specs.Bodies.{AreBodies, body_by, HasBody, IsHeaded, size_by}
-use Rattle.oc_macho_write.specs.Heads.{AreHeads, segment_of, dysymtab_of}
-use Rattle.oc_macho_write.specs.Parts.{AreParts, part_in}
-use Rattle.oc_macho_write.specs.Relocations.{all_raws}
+use Rattle.oc_shelf.proofs.{WritingLaws.PartLemmas.{aligned_rises}, WritingLaws.MemberLemmas.{of_map, member_map}}
+use Rattle.oc_macho.specs.{Nlist.{nlist_size}, declared.constants.TheConstants.{LC_DYSYMTAB}, declared.load_command.TheConstants.{DYSYMTAB_COMMAND_SIZE}}
+use Rattle.oc_macho.specs.{declared.relocation_info.RelocationInfo.{RelocationInfo}, MachHeader.{address_size}, SectionHeader.{section_header_size}}
+use Rattle.oc_macho.specs.{SegmentCommand.{segment_number}, declared.section_header.SectionHeader.{SectionHeader}}
+use Rattle.oc_macho.specs.{Structures.{section_bytes, nlist_bytes, relocation_bytes, mach_header_bytes, symtab_bytes}, declared.structures.Dysymtab.{Dysymtab}}
 use Rattle.oc_macho.specs.Structures.{segment_front, segment_back, dysymtab_front}
-use Rattle.oc_macho_write.specs.Words.{items_at}
+use Rattle.oc_strings.specs.Tables.{StringTable}
+use Rattle.oc_macho_file.specs.{Bodies.{raw_of}, Canonical.{part_bytes, segment_numbers, section_headers, dysymtab_numbers, words}}
+use Rattle.oc_macho_file.specs.Layout.{filled, relocs_of, parts_of, segment_length, string_table, strings_of}
+use Rattle.oc_macho_file.specs.{Lines.{lines_of, inner_lines, defined_lines, undefined_lines}, Symbols.{line_entry}}
+use Rattle.oc_macho_file.specs.Layout as layout
+use Rattle.oc_macho_file.proofs.{CodedLaws.{IsForMach}, CountLaws.{few_lines}, PartLaws.{header_sized}}
+use Rattle.oc_macho_write.specs.{declared.bodies.Bodies.{Bodies}, declared.heads.Heads.{Heads}, declared.parts.Part.{Part}}
+use Rattle.oc_macho_write.specs.{Bodies.{AreBodies, body_by, HasBody, IsHeaded, size_by}, Heads.{AreHeads, segment_of, dysymtab_of}, Parts.{AreParts, part_in}}
+use Rattle.oc_macho_write.specs.{Relocations.{all_raws}, Words.{items_at}}
+use Rattle.oc_macho_write.specs.declared.parts.Part.TheVariants as part
 use Rattle.oc_plans.proofs.PlacedLemmas.{joined_rows}
 
 -- a table of what is made of each thing

@@ -1,10 +1,7 @@
 -- The segment and the section in a name, by where the first comma stands.
 use Rattle.std.proofs.Common.{◌≡◌, ℕ, ◌+◌, ◌≤◌, true, false, Bool, List, [], Some, None, cond, length, nat_lt, ap, sym, refl, arith}
-use Rattle.std.specs.Prelude.{drop}
-use Rattle.std.specs.List.{position_or_len}
-use Rattle.std.proofs.lemmas.Bool.Decides.{nat_tests}
-use Rattle.std.proofs.lemmas.List.{drop_all}
-use Rattle.std.proofs.lemmas.Option.{none-some, same_Some}
+use Rattle.std.specs.{Prelude.{drop}, List.{position_or_len}}
+use Rattle.std.proofs.lemmas.{Bool.Decides.{nat_tests}, List.{drop_all}, Option.{none-some, same_Some}}
 use Rattle.oc_neutral.specs.Mach.Kinds.{is_comma, section_of}
 use Rattle.oc_target.specs.Commas.{comma_place}
 

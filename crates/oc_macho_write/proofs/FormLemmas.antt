@@ -1,36 +1,24 @@
 -- The row of a form, as a look-up tells it: the number of its types, and what the addend has beyond the field.
 use Rattle.std.proofs.Common.{◌≡◌, ℕ, ◌+◌, ◌<◌, Bool, true, false, true≢false, ◌&&◌, cond, ℤ, IsOk, Option, Some, None, map, inl, inr, refl, sym, ◌∙◌, ap, subst, arith}
-use Rattle.std.specs.Prelude.{◌⊎◌, pos, neg_ℤ, ◌-ℤ◌, ◌+ℤ◌, slice_get, find, nat_lt, is_ok, is_some, Ok}
-use Rattle.std.specs.Option.{option_map, option_map_or}
-use Rattle.std.proofs.lemmas.Bool.{and_parts}
-use Rattle.std.proofs.lemmas.Bool.Decides.{nat_tests}
-use Rattle.std.proofs.lemmas.Option.{none-some, same_Some}
-use Rattle.oc_base.specs.declared.format.Word.{Word}
-use Rattle.oc_base.specs.declared.format.Word.TheVariants.{W32, W64}
-use Rattle.oc_linking.specs.declared.terms.Hint.{Hint}
-use Rattle.oc_linking.specs.declared.terms.Hint.TheVariants.{Plain}
+use Rattle.std.specs.{Prelude.{◌⊎◌, pos, neg_ℤ, ◌-ℤ◌, ◌+ℤ◌, slice_get, find, nat_lt, is_ok, is_some, Ok}, Option.{option_map, option_map_or}}
+use Rattle.std.proofs.lemmas.{Bool.{and_parts}, Bool.Decides.{nat_tests}, Option.{none-some, same_Some}}
+use Rattle.oc_base.specs.{declared.format.Word.{Word}, declared.format.Word.TheVariants.{W32, W64}}
+use Rattle.oc_linking.specs.{declared.terms.Hint.{Hint}, declared.terms.Hint.TheVariants.{Plain}, Numbers.{or_else}}
 use Rattle.oc_linking.specs.declared.terms.Width.TheVariants as width
-use Rattle.oc_linking.specs.Numbers.{or_else}
-use Rattle.oc_algebra.specs.declared.form.Form.{Form}
-use Rattle.oc_algebra.specs.Fields.{to_field_of}
+use Rattle.oc_algebra.specs.{declared.form.Form.{Form}, Fields.{to_field_of}}
 use Rattle.oc_neutral.specs.declared.reloc.Reloc.{Reloc}
 use Rattle.oc_neutral.specs.Rows.{Row, Taken, TakesZero, TakesPlace, TakesGotBase, TakesImageBase, TakesHome, TakesSection, same_taken, taken_of, shift_of}
-use Rattle.oc_neutral.specs.RelocTables.{rows_of}
-use Rattle.oc_neutral.specs.Shifts.{entry_target_shift, written_shift}
-use Rattle.oc_neutral.specs.Spelling.{is_written, numbers_in, row_taking, spelling_of, written_row}
-use Rattle.oc_neutral.specs.Objects.{Object}
+use Rattle.oc_neutral.specs.{RelocTables.{rows_of}, Shifts.{entry_target_shift, written_shift}}
+use Rattle.oc_neutral.specs.{Spelling.{is_written, numbers_in, row_taking, spelling_of, written_row}, Objects.{Object}}
 use Rattle.oc_neutral.proofs.Mapped.{from_mapped}
 use Rattle.oc_target.proofs.MeetsRows.{of_table, found_there, taken_is, width_is}
-use Rattle.oc_target.specs.declared.forms.Spelling.{Spelling}
+use Rattle.oc_target.specs.{declared.forms.Spelling.{Spelling}, Lookup.{answer_of}}
 use Rattle.oc_target.specs.declared.forms.Spelling.TheVariants as spelling
-use Rattle.oc_target.specs.Lookup.{answer_of}
 use Rattle.oc_macho.specs.MachHeader.{mach_format}
-use Rattle.oc_macho_file.specs.Addresses.{address_of}
+use Rattle.oc_macho_file.specs.{Addresses.{address_of}, Bodies.{end_address, field_shift, entry_target_of, written_reloc_at, taken_section}}
 use Rattle.oc_macho_file.specs.Bodies as bodies
-use Rattle.oc_macho_file.specs.Bodies.{end_address, field_shift, entry_target_of, written_reloc_at, taken_section}
 use Rattle.oc_macho_file.proofs.CodedLaws.{word_back}
-use Rattle.oc_macho_write.specs.declared.forms.FieldContext.{FieldContext}
-use Rattle.oc_macho_write.specs.declared.forms.SpelledReloc.{SpelledReloc}
+use Rattle.oc_macho_write.specs.{declared.forms.FieldContext.{FieldContext}, declared.forms.SpelledReloc.{SpelledReloc}}
 use Rattle.oc_macho_write.specs.Forms.{CanWrite, FieldHolds, HasForm, HasPlace, IsFor, IsStanding, IsWritten}
 
 -- ... the rows of the tables

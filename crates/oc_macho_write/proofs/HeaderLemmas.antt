@@ -3,27 +3,16 @@ use Rattle.std.proofs.Common.{◌≡◌, ℕ, ◌-◌, ◌^◌, ◌<◌, List, l
 use Rattle.std.specs.Prelude.{slice_get, flat_map}
 use Rattle.std.proofs.lemmas.List.{length-append}
 use Rattle.oc_base.specs.declared.format.Word.{Word}
-use Rattle.oc_neutral.specs.declared.section.Section.{Section}
-use Rattle.oc_neutral.specs.Mach.Kinds.{segment_of, section_of}
-use Rattle.oc_neutral.specs.Objects.{Object}
+use Rattle.oc_neutral.specs.{declared.section.Section.{Section}, Mach.Kinds.{segment_of, section_of}, Objects.{Object}}
 use Rattle.oc_shelf.specs.Writing.Parts.{aligned}
 use Rattle.oc_shelf.proofs.WritingLaws.StandingLemmas.{stands_inside}
-use Rattle.oc_macho.specs.MachHeader.{address_size, cpu_type}
-use Rattle.oc_macho.specs.declared.constants.TheConstants.{MH_OBJECT}
-use Rattle.oc_macho.specs.declared.mach_header.MachHeader.{MachHeader}
-use Rattle.oc_macho.specs.declared.section_header.SectionHeader.{SectionHeader}
-use Rattle.oc_macho.specs.declared.symtab_command.SymtabCommand.{SymtabCommand}
+use Rattle.oc_macho.specs.{MachHeader.{address_size, cpu_type}, declared.constants.TheConstants.{MH_OBJECT}, declared.mach_header.MachHeader.{MachHeader}}
+use Rattle.oc_macho.specs.{declared.section_header.SectionHeader.{SectionHeader}, declared.symtab_command.SymtabCommand.{SymtabCommand}}
+use Rattle.oc_macho.specs.{Structures.{magic_of, padded, relocation_bytes}, declared.constants.TheConstants.{COMMAND_COUNT, CPU_SUBTYPE_ALL}}
 use Rattle.oc_macho_file.specs.Canonical.{file_header, mach_file, pointer_to, section_header, symtab_command}
 use Rattle.oc_macho_file.specs.Layout.{commands_length, is_raw, is_relocs, is_string_table, is_symbol_table, line_names, part_where, relocs_of, string_table, strings_of}
-use Rattle.oc_macho_file.specs.Lines.{lines_of}
-use Rattle.oc_macho.specs.Structures.{magic_of, padded, relocation_bytes}
-use Rattle.oc_macho_file.specs.Symbols.{exponent_of}
-use Rattle.oc_macho_file.specs.Addresses.{address_of}
-use Rattle.oc_macho.specs.declared.constants.TheConstants.{COMMAND_COUNT, CPU_SUBTYPE_ALL}
-use Rattle.oc_macho_file.proofs.CodedLaws.{IsForMach}
-use Rattle.oc_macho_file.proofs.CountLaws.{few_lines}
-use Rattle.oc_macho_file.proofs.FileSize.{small_file}
-use Rattle.oc_macho_file.proofs.HeaderFits.{headers_fit, symtab_fits}
+use Rattle.oc_macho_file.specs.{Lines.{lines_of}, Symbols.{exponent_of}, Addresses.{address_of}}
+use Rattle.oc_macho_file.proofs.{CodedLaws.{IsForMach}, CountLaws.{few_lines}, FileSize.{small_file}, HeaderFits.{headers_fit, symtab_fits}}
 use Rattle.oc_macho_file.proofs.PartLaws.{stands_relocs}
 use Rattle.oc_macho_write.proofs.BodyLemmas.{filled_long}
 

@@ -1,17 +1,12 @@
 -- The places of the parts of an output, as they are laid.
 use Rattle.std.proofs.Common.{◌≡◌, ℕ, zero, suc, ◌+◌, ◌^◌, ◌<◌, List, [], ◌∷◌, ◌++◌, length, take, drop, Option, Some, None, refl, sym, ◌∙◌, ap, arith}
-use Rattle.std.specs.Prelude.{slice_get, IsSome}
-use Rattle.std.specs.Option.{option_map}
-use Rattle.std.proofs.lemmas.Bool.{true≢false}
-use Rattle.std.proofs.lemmas.Option.{none-some, same_Some, slice_get_within}
+use Rattle.std.specs.{Prelude.{slice_get, IsSome}, Option.{option_map}}
+use Rattle.std.proofs.lemmas.{Bool.{true≢false}, Option.{none-some, same_Some, slice_get_within}}
 use Rattle.oc_base.specs.declared.format.Word.{Word}
-use Rattle.oc_neutral.specs.declared.section.Section.{Section}
-use Rattle.oc_neutral.specs.Objects.{Object}
+use Rattle.oc_neutral.specs.{declared.section.Section.{Section}, Objects.{Object}}
 use Rattle.oc_shelf.specs.Writing.Parts.{laid_end, aligned}
 use Rattle.oc_macho_file.specs.Layout.{Part, Relocs, entries_align, parts_of, part_begin, part_size, relocs_of}
-use Rattle.oc_macho_file.proofs.CodedLaws.{IsForMach}
-use Rattle.oc_macho_file.proofs.FileSize.{small_file}
-use Rattle.oc_macho_file.proofs.PartLaws.{length-mach_file, rises}
+use Rattle.oc_macho_file.proofs.{CodedLaws.{IsForMach}, FileSize.{small_file}, PartLaws.{length-mach_file, rises}}
 use Rattle.oc_plans.proofs.PlacedLemmas.{end_low}
 
 split_at : {X : Type 0} (xs : List X) (k : ℕ) (x : X) → slice_get xs k ≡ Some x → take k xs ++ x ∷ drop (k + 1) xs ≡ xs

@@ -1,7 +1,6 @@
 -- Where the last thing stands that passes a test: the first, where no more than one passes.
 use Rattle.std.proofs.Common.{◌≡◌, ℕ, zero, suc, ◌+◌, Bool, true, false, cond, List, [], ◌∷◌, take, Some, refl, ◌∙◌, ap, arith}
-use Rattle.std.specs.Prelude.{slice_get, find}
-use Rattle.std.specs.Option.{option_map_or}
+use Rattle.std.specs.{Prelude.{slice_get, find}, Option.{option_map_or}}
 use Rattle.std.proofs.lemmas.Option.{none-some, same_Some}
 use Rattle.oc_shelf.specs.Writing.Parts.{Laid}
 use Rattle.oc_macho_write.specs.Addresses.{place_or}

@@ -1,17 +1,14 @@
 -- Lines that are added in their order.
 use Rattle.std.proofs.Common.{◌≡◌, ℕ, suc, ◌+◌, ◌-◌, ◌<◌, Bool, true, false, cond, List, [], ◌∷◌, ◌++◌, length, map, Some, refl, sym, ◌∙◌, ap, append_assoc, arith}
-use Rattle.std.specs.Prelude.{slice_get}
-use Rattle.std.specs.List.{filter, range_with_len}
+use Rattle.std.specs.{Prelude.{slice_get}, List.{filter, range_with_len}}
 use Rattle.std.proofs.lemmas.List.{length-map}
 use Rattle.oc_base.specs.declared.format.Word.{Word}
 use Rattle.oc_shelf.proofs.WritingLaws.MemberLemmas.{of_map, member_map}
 use Rattle.oc_neutral.specs.Objects.{Object}
 use Rattle.oc_macho_file.specs.Lines as lines
 use Rattle.oc_macho_file.specs.Lines.{lines_of, inner_lines, own_lines, local_lines, defined_lines, lines_where}
-use Rattle.oc_macho_write.specs.declared.lines.Line.{Line}
-use Rattle.oc_macho_write.specs.declared.lines.Outer.{Outer}
-use Rattle.oc_macho_write.specs.declared.lines.Outer.TheVariants.{Defined, Undefined, Common, Optional}
-use Rattle.oc_macho_write.specs.Lines.{line_in, lines_in, AreLines, is_outer}
+use Rattle.oc_macho_write.specs.{declared.lines.Line.{Line}, declared.lines.Outer.{Outer}}
+use Rattle.oc_macho_write.specs.{declared.lines.Outer.TheVariants.{Defined, Undefined, Common, Optional}, Lines.{line_in, lines_in, AreLines, is_outer}}
 use Rattle.oc_plans.proofs.Turns.{map_append}
 
 -- the next position, and those behind it

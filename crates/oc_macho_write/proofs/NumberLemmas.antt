@@ -1,28 +1,18 @@
 -- The numbers of lines, as they are given one after another.
 use Rattle.std.proofs.Common.{◌≡◌, ℕ, zero, suc, ◌+◌, ◌&&◌, ◌<◌, ◌≤◌, Bool, true, false, true≢false, cond, inl, inr, List, [], ◌∷◌, ◌++◌, length, take, Option, Some, None, refl, sym, ◌∙◌, ap, subst, arith}
-use Rattle.std.specs.Prelude.{slice_get, slice_index_or}
-use Rattle.std.specs.List.{enumerate_from, filter, range_with_len}
-use Rattle.std.specs.Option.{option_map}
-use Rattle.std.proofs.lemmas.Bool.{eqb-true}
-use Rattle.std.proofs.lemmas.List.{take_all}
-use Rattle.std.proofs.lemmas.Option.{none-some, same_Some, slice_get_within}
-use Rattle.oc_base.specs.declared.format.Word.{Word}
-use Rattle.oc_base.specs.declared.format.Word.TheVariants.{W32, W64}
+use Rattle.std.specs.{Prelude.{slice_get, slice_index_or}, List.{enumerate_from, filter, range_with_len}, Option.{option_map}}
+use Rattle.std.proofs.lemmas.{Bool.{eqb-true}, List.{take_all}, Option.{none-some, same_Some, slice_get_within}}
+use Rattle.oc_base.specs.{declared.format.Word.{Word}, declared.format.Word.TheVariants.{W32, W64}}
 use Rattle.oc_linking.specs.Parts.{is_local}
-use Rattle.oc_neutral.specs.declared.symbol.Symbol.{Symbol}
-use Rattle.oc_neutral.specs.Mach.SectionSymbols.{needed_sections, needs_section_symbol}
-use Rattle.oc_neutral.specs.Objects.{Object}
+use Rattle.oc_neutral.specs.{declared.symbol.Symbol.{Symbol}, Mach.SectionSymbols.{needed_sections, needs_section_symbol}, Objects.{Object}}
 use Rattle.oc_neutral.specs.WrittenSymbols.{is_written}
 use Rattle.oc_shelf.specs.Writing.Parts.{Laid, laid, behind}
 use Rattle.oc_shelf.proofs.WritingLaws.MemberLemmas.{of_append, of_map}
 use Rattle.oc_macho_file.specs.Lines.{Line, OwnLine, LocalLine, OuterLine, lines_of, inner_lines, own_lines, local_lines, defined_lines, undefined_lines, lines_where, line_size, numbered_lines, is_own_line, is_symbol_line}
-use Rattle.oc_macho_file.proofs.LineLaws.{one_outer}
-use Rattle.oc_macho_file.proofs.NameLaws.{needed_low}
-use Rattle.oc_macho_write.specs.declared.lines.Line.{Line as Given}
-use Rattle.oc_macho_write.specs.declared.lines.Line.TheVariants as line
-use Rattle.oc_macho_write.specs.declared.numbers.Numbers.{Numbers}
-use Rattle.oc_macho_write.specs.Numbers.{AreSized, CanGive, IsBlank, IsNumbered}
+use Rattle.oc_macho_file.proofs.{LineLaws.{one_outer}, NameLaws.{needed_low}}
+use Rattle.oc_macho_write.specs.{declared.lines.Line.{Line as Given}, declared.numbers.Numbers.{Numbers}, Numbers.{AreSized, CanGive, IsBlank, IsNumbered}}
 use Rattle.oc_macho_write.specs.Lines.{line_in, IsNamed}
+use Rattle.oc_macho_write.specs.declared.lines.Line.TheVariants as line
 use Rattle.oc_plans.proofs.Turns.{length-laid}
 use Rattle.oc_macho_write.proofs.LastWhere.{last_where, last_more, last_is, PassesOnce}
 

@@ -3,12 +3,10 @@ use Rattle.std.proofs.Common.{◌≡◌, List, [], ◌∷◌, ◌++◌, length, 
 use Rattle.std.specs.List.{enumerate_from}
 use Rattle.std.proofs.lemmas.List.{length-map}
 use Rattle.oc_neutral.specs.Objects.{Object}
-use Rattle.oc_macho_file.specs.Addresses.{stored_sections}
+use Rattle.oc_macho_file.specs.{Addresses.{stored_sections}, Layout.{head_parts, table_parts, raw_part, relocs_part, parts_of}}
 use Rattle.oc_macho_file.specs.Layout as layout
-use Rattle.oc_macho_file.specs.Layout.{head_parts, table_parts, raw_part, relocs_part, parts_of}
-use Rattle.oc_macho_write.specs.declared.parts.Part.{Part}
+use Rattle.oc_macho_write.specs.{declared.parts.Part.{Part}, Parts.{AreParts, part_in, parts_in}}
 use Rattle.oc_macho_write.specs.declared.parts.Part.TheVariants as part
-use Rattle.oc_macho_write.specs.Parts.{AreParts, part_in, parts_in}
 use Rattle.oc_plans.proofs.Turns.{map_append}
 
 pub parts_whole : (n : Object) (heads raws relocs all : List Part) → heads ≡ part.FileHead ∷ part.SegmentHead ∷ part.SectionHeads ∷ part.SymtabHead ∷ part.DysymtabHead ∷ []

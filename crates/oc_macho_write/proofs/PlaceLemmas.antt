@@ -1,28 +1,20 @@
 -- The places of parts, given one after another.
 use Rattle.std.proofs.Common.{◌≡◌, ℕ, zero, suc, ◌+◌, ◌<◌, ◌≤◌, Bool, true, false, true≢false, cond, not, List, [], ◌∷◌, ◌++◌, length, map, take, get_or, Option, Some, None, inl, inr, refl, sym, ◌∙◌, ap, subst, arith}
-use Rattle.std.specs.Prelude.{slice_get}
-use Rattle.std.specs.List.{AllByRecursion, enumerate_from, filter}
-use Rattle.std.specs.Option.{option_map}
-use Rattle.std.proofs.lemmas.Bool.{eqb-true}
-use Rattle.std.proofs.lemmas.List.{take_all}
-use Rattle.std.proofs.lemmas.Option.{none-some, same_Some, get_or_from_slice_get, slice_get_within}
+use Rattle.std.specs.{Prelude.{slice_get}, List.{AllByRecursion, enumerate_from, filter}, Option.{option_map}}
+use Rattle.std.proofs.lemmas.{Bool.{eqb-true}, List.{take_all}, Option.{none-some, same_Some, get_or_from_slice_get, slice_get_within}}
 use Rattle.oc_base.specs.declared.format.Word.{Word}
-use Rattle.oc_neutral.specs.declared.section.Section.{Section}
-use Rattle.oc_neutral.specs.Objects.{Object}
+use Rattle.oc_neutral.specs.{declared.section.Section.{Section}, Objects.{Object}}
 use Rattle.oc_neutral.proofs.Positions.{each_at}
 use Rattle.oc_shelf.specs.Writing.Parts.{Laid, laid}
 use Rattle.oc_shelf.proofs.WritingLaws.MemberLemmas.{each_append, member_map, of_append, of_map, of_enumerated}
 use Rattle.oc_shelf.proofs.WritingLaws.PartLemmas.{laid_part, laid_there}
 use Rattle.oc_macho_file.specs.Addresses.{Numbered, is_blank, stored_sections}
-use Rattle.oc_macho_file.specs.Layout as layout
 use Rattle.oc_macho_file.specs.Layout.{FileHead, SegmentHead, SectionHeads, SymtabHead, DysymtabHead, Raw, Relocs, SymbolTable, StringTable, head_parts, table_parts, raw_part, relocs_part, is_raw, is_relocs, is_symbol_table, is_string_table, laid_parts, part_begin, part_size, parts_of}
+use Rattle.oc_macho_file.specs.Layout as layout
 use Rattle.oc_macho_file.proofs.PartLaws.{rises}
-use Rattle.oc_macho_write.specs.declared.parts.Part.{Part}
-use Rattle.oc_macho_write.specs.declared.parts.Part.TheVariants as part
-use Rattle.oc_macho_write.specs.declared.places.Places.{Places}
-use Rattle.oc_macho_write.specs.LaidParts.{begins_by}
-use Rattle.oc_macho_write.specs.Parts.{part_in}
+use Rattle.oc_macho_write.specs.{declared.parts.Part.{Part}, declared.places.Places.{Places}, LaidParts.{begins_by}, Parts.{part_in}}
 use Rattle.oc_macho_write.specs.Places.{ArePlaces, CanGive, HasRoom, IsBlank}
+use Rattle.oc_macho_write.specs.declared.parts.Part.TheVariants as part
 use Rattle.oc_plans.proofs.Turns.{length-laid}
 use Rattle.oc_macho_write.proofs.LastWhere.{last_where, last_more, last_is, PassesOnce}
 

@@ -1,10 +1,7 @@
 -- The parts of a planned file: which they are.
 use Rattle.std.proofs.Common.{◌≡◌, ℕ, ◌<◌, [], length, get_or, arith}
 use Rattle.std.proofs.lemmas.List.{length-map}
-use Rattle.oc_macho_write.specs.declared.parts.Part.{Part}
-use Rattle.oc_macho_write.specs.declared.plan.MachParts.{MachParts}
-use Rattle.oc_macho_write.specs.Bodies.{body_by, HasBody}
-use Rattle.oc_macho_write.specs.Plans.{AreSound, parts_by}
+use Rattle.oc_macho_write.specs.{declared.parts.Part.{Part}, declared.plan.MachParts.{MachParts}, Bodies.{body_by, HasBody}, Plans.{AreSound, parts_by}}
 use Rattle.oc_plans.proofs.PlacedLemmas.{all_get, mapped_at}
 
 module _ (p : MachParts) (k : ℕ) (low : k < length (parts_by p)) (d : Part) where

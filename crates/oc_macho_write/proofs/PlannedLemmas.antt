@@ -1,29 +1,17 @@
 -- The parts of the canonical file, as a plan has them.
 use Rattle.std.proofs.Common.{◌≡◌, ℕ, List, [], ◌∷◌, length, map, refl, sym, ◌∙◌, ap, subst, arith}
 use Rattle.std.specs.List.{enumerate_from}
-use Rattle.std.proofs.lemmas.List.{length-map}
-use Rattle.std.proofs.lemmas.List.FromFn.{length-enumerate_from}
+use Rattle.std.proofs.lemmas.{List.{length-map}, List.FromFn.{length-enumerate_from}}
 use Rattle.oc_base.specs.declared.format.Word.{Word}
-use Rattle.oc_neutral.specs.declared.section.Section.{Section}
-use Rattle.oc_neutral.specs.Objects.{Object}
-use Rattle.oc_shelf.specs.declared.writing.layout.Layout.{Layout}
-use Rattle.oc_shelf.specs.Writing.Parts.{file_of, pieces_by, IsPlaced}
+use Rattle.oc_neutral.specs.{declared.section.Section.{Section}, Objects.{Object}}
+use Rattle.oc_shelf.specs.{declared.writing.layout.Layout.{Layout}, Writing.Parts.{file_of, pieces_by, IsPlaced}}
 use Rattle.oc_plans.specs.Numbered.{section_with_numbers}
-use Rattle.oc_shelf.proofs.WritingLaws.LayoutLemmas.{part_low}
-use Rattle.oc_shelf.proofs.WritingLaws.MemberLemmas.{all_members}
+use Rattle.oc_shelf.proofs.{WritingLaws.LayoutLemmas.{part_low}, WritingLaws.MemberLemmas.{all_members}}
 use Rattle.oc_plans.proofs.PlacedLemmas.{file_laid, mapped_in, placed_laid}
-use Rattle.oc_macho_file.specs.Bodies.{raw_of}
-use Rattle.oc_macho_file.specs.Canonical.{mach_file, part_bytes}
-use Rattle.oc_macho_file.specs.Layout.{part_begin, part_size, parts_of}
-use Rattle.oc_macho_file.proofs.CodedLaws.{IsForMach}
-use Rattle.oc_macho_file.proofs.FileSize.{small_file}
-use Rattle.oc_macho_file.proofs.PartLaws.{part_sized, rises}
-use Rattle.oc_macho_write.specs.declared.plan.MachParts.{MachParts}
-use Rattle.oc_macho_write.specs.Bodies.{body_by, HasBody, IsHeaded}
-use Rattle.oc_macho_write.specs.LaidParts.{AreLaid}
-use Rattle.oc_macho_write.specs.Parts.{part_in}
-use Rattle.oc_macho_write.specs.Plans.{AreMade, AreSound, parts_by}
-use Rattle.oc_macho_write.specs.Relocations.{number_at}
+use Rattle.oc_macho_file.specs.{Bodies.{raw_of}, Canonical.{mach_file, part_bytes}, Layout.{part_begin, part_size, parts_of}}
+use Rattle.oc_macho_file.proofs.{CodedLaws.{IsForMach}, FileSize.{small_file}, PartLaws.{part_sized, rises}}
+use Rattle.oc_macho_write.specs.{declared.plan.MachParts.{MachParts}, Bodies.{body_by, HasBody, IsHeaded}, LaidParts.{AreLaid}, Parts.{part_in}}
+use Rattle.oc_macho_write.specs.{Plans.{AreMade, AreSound, parts_by}, Relocations.{number_at}}
 use Rattle.oc_macho_write.proofs.BodyLemmas.{body_is, has_body, is_headed, part_listed}
 
 -- ... the bytes of sections

@@ -1,26 +1,18 @@
 -- The relocation entries of the sections, one after another.
 use Rattle.std.proofs.Common.{◌≡◌, ℕ, cond, List, [], ◌∷◌, ◌++◌, flat_map, Option, Some, None, refl, sym, ◌∙◌, ap, subst}
-use Rattle.oc_base.specs.declared.format.Word.{Word}
-use Rattle.oc_base.specs.declared.format.Word.TheVariants.{W32, W64}
+use Rattle.oc_base.specs.{declared.format.Word.{Word}, declared.format.Word.TheVariants.{W32, W64}}
 use Rattle.oc_linking.specs.declared.terms.Width.{Width}
-use Rattle.oc_chains.specs.declared.field.Field.{Field}
-use Rattle.oc_chains.specs.Lists.{list_of}
-use Rattle.oc_neutral.specs.declared.reloc.Reloc.{Reloc}
-use Rattle.oc_neutral.specs.Mach.Relocs.{length_of}
-use Rattle.oc_neutral.specs.Objects.{Object}
-use Rattle.oc_neutral.specs.Rows.{TakesPlace, same_taken}
+use Rattle.oc_chains.specs.{declared.field.Field.{Field}, Lists.{list_of}}
+use Rattle.oc_neutral.specs.{declared.reloc.Reloc.{Reloc}, Mach.Relocs.{length_of}, Objects.{Object}, Rows.{TakesPlace, same_taken}}
 use Rattle.oc_plans.specs.Numbered.{AreAll}
 use Rattle.oc_shelf.specs.Writing.Parts.{Laid}
 use Rattle.oc_target.proofs.Giving.{all_given, more_given}
-use Rattle.oc_macho.specs.declared.relocation_info.Reference.{Reference}
+use Rattle.oc_macho.specs.{declared.relocation_info.Reference.{Reference}, declared.relocation_info.RelocationInfo.{RelocationInfo}}
 use Rattle.oc_macho.specs.declared.relocation_info.Reference.TheVariants as reference
-use Rattle.oc_macho.specs.declared.relocation_info.RelocationInfo.{RelocationInfo}
 use Rattle.oc_macho_file.specs.Bodies as bodies
 use Rattle.oc_macho_file.specs.Bodies.{entries_at, entries_of, pair_entries, plain_entry, reference_to, standing_entries, taken_section}
 use Rattle.oc_macho_file.specs.Lines.{Line, numbered_lines, own_number}
-use Rattle.oc_macho_write.specs.declared.forms.FieldContext.{FieldContext}
-use Rattle.oc_macho_write.specs.declared.forms.SpelledReloc.{SpelledReloc}
-use Rattle.oc_macho_write.specs.Forms.{CanWrite, IsWritten}
+use Rattle.oc_macho_write.specs.{declared.forms.FieldContext.{FieldContext}, declared.forms.SpelledReloc.{SpelledReloc}, Forms.{CanWrite, IsWritten}}
 use Rattle.oc_macho_write.proofs.FormLemmas.{its_row, pair_absolute}
 
 -- ... the entries of a relocation that stands

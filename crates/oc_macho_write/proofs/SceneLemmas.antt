@@ -1,27 +1,17 @@
 -- What numbers are made of, where the object is one.
 use Rattle.std.proofs.Common.{◌≡◌, ℕ, ◌<◌, ◌^◌, true, true≢false, List, length, Option, Some, None, sym, ◌∙◌, ap, subst, arith}
-use Rattle.std.specs.Prelude.{IfSome, is_some, slice_get}
-use Rattle.std.specs.List.{AllByRecursion}
-use Rattle.std.specs.Option.{option_and_then}
+use Rattle.std.specs.{Prelude.{IfSome, is_some, slice_get}, List.{AllByRecursion}, Option.{option_and_then}}
 use Rattle.std.proofs.lemmas.Option.{none-some, slice_get_within}
 use Rattle.oc_base.specs.declared.format.Word.TheVariants.{W32, W64}
-use Rattle.oc_linking.specs.declared.terms.Less.{Less}
+use Rattle.oc_linking.specs.{declared.terms.Less.{Less}, declared.terms.Binding.{Binding}}
+use Rattle.oc_linking.specs.declared.terms.Binding.TheVariants.{Local, Global, Undefined, Common, Weak}
 use Rattle.oc_linking.specs.declared.terms.Less.TheVariants as less
 use Rattle.oc_linking.specs.declared.terms.Value.TheVariants as value
-use Rattle.oc_linking.specs.declared.terms.Binding.{Binding}
-use Rattle.oc_linking.specs.declared.terms.Binding.TheVariants.{Local, Global, Undefined, Common, Weak}
-use Rattle.oc_chains.specs.declared.field.Field.{Field}
-use Rattle.oc_chains.specs.Lists.{list_of}
-use Rattle.oc_neutral.specs.declared.symbol.Symbol.{Symbol}
-use Rattle.oc_neutral.specs.declared.reloc.Reloc.{Reloc}
-use Rattle.oc_neutral.specs.declared.reloc.Target.{Target}
+use Rattle.oc_chains.specs.{declared.field.Field.{Field}, Lists.{list_of}}
+use Rattle.oc_neutral.specs.{declared.symbol.Symbol.{Symbol}, declared.reloc.Reloc.{Reloc}, declared.reloc.Target.{Target}, Invariants.{IsBinding, IsSymbol}}
+use Rattle.oc_neutral.specs.{KeySymbols.{global_place}, Normal.{Place}, Objects.{Object, reloc_at}, TargetRelocations.{fixed_end, global_section}}
 use Rattle.oc_neutral.specs.declared.reloc.Target.TheVariants as target
 use Rattle.oc_neutral.specs.Invariants as neutral
-use Rattle.oc_neutral.specs.Invariants.{IsBinding, IsSymbol}
-use Rattle.oc_neutral.specs.KeySymbols.{global_place}
-use Rattle.oc_neutral.specs.Normal.{Place}
-use Rattle.oc_neutral.specs.Objects.{Object, reloc_at}
-use Rattle.oc_neutral.specs.TargetRelocations.{fixed_end, global_section}
 use Rattle.oc_neutral.proofs.Positions.{each_weaker}
 use Rattle.oc_plans.specs.Numbered.{AreAll}
 use Rattle.oc_shelf.proofs.WritingLaws.MemberLemmas.{all_members}
@@ -29,13 +19,9 @@ use Rattle.oc_macho.specs.MachHeader.{mach_format}
 use Rattle.oc_macho_file.specs.Lines.{numbered_lines}
 use Rattle.oc_macho_file.proofs.CodedLaws.{IsForMach}
 use Rattle.oc_macho_file.proofs.EntryLaws.{addend_held, entry, field_there, known, mach_reloc, meets, row, row_is, standing, standing_is}
-use Rattle.oc_macho_file.proofs.PairLaws.{end_placed}
-use Rattle.oc_macho_file.proofs.PinLaws.{IsTakenSection, Another, Own, taken_is}
-use Rattle.oc_macho_file.proofs.RowLaws.{IsKnown, KnownAlone, KnownPair}
-use Rattle.oc_macho_write.specs.declared.forms.FieldContext.{FieldContext}
-use Rattle.oc_macho_write.specs.declared.numbers.Numbers.{Numbers}
-use Rattle.oc_macho_write.specs.Forms.{CanWrite, HasPlace, IsLessThere, IsReady, IsFieldContext, IsThere}
-use Rattle.oc_macho_write.specs.Numbers.{AreSized}
+use Rattle.oc_macho_file.proofs.{PairLaws.{end_placed}, PinLaws.{IsTakenSection, Another, Own, taken_is}, RowLaws.{IsKnown, KnownAlone, KnownPair}}
+use Rattle.oc_macho_write.specs.{declared.forms.FieldContext.{FieldContext}, declared.numbers.Numbers.{Numbers}}
+use Rattle.oc_macho_write.specs.{Forms.{CanWrite, HasPlace, IsLessThere, IsReady, IsFieldContext, IsThere}, Numbers.{AreSized}}
 use Rattle.oc_macho_write.specs.Relocations.{CanTell, HasNumbers}
 
 module _ (n : Object) (x : FieldContext) (is : IsForMach x.word n) (context : IsFieldContext x.word n x) where

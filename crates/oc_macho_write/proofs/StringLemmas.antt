@@ -1,26 +1,15 @@
 -- The names that are given to the string table have room.
 use Rattle.std.proofs.Common.{◌≡◌, ℕ, zero, suc, ◌+◌, ◌*◌, ◌^◌, ◌<◌, ◌≤◌, Bool, true, false, ◌&&◌, cond, List, [], ◌∷◌, ◌++◌, length, map, Some, refl, sym, ap, subst, arith, length-append}
-use Rattle.std.specs.Prelude.{slice_get, codes, decimal}
-use Rattle.std.specs.List.{Contains, sum_by, enumerate_from, filter}
-use Rattle.std.proofs.lemmas.Option.{none-some, same_Some}
-use Rattle.std.proofs.lemmas.Fmt.{length-decimal-le}
-use Rattle.std.proofs.lemmas.List.{length-map}
-use Rattle.std.proofs.lemmas.List.Sums.{sum_by-cons}
-use Rattle.oc_base.specs.declared.format.Word.{Word}
-use Rattle.oc_base.specs.declared.format.Word.TheVariants.{W32, W64}
+use Rattle.std.specs.{Prelude.{slice_get, codes, decimal}, List.{Contains, sum_by, enumerate_from, filter}}
+use Rattle.std.proofs.lemmas.{Option.{none-some, same_Some}, Fmt.{length-decimal-le}, List.{length-map}, List.Sums.{sum_by-cons}}
+use Rattle.oc_base.specs.{declared.format.Word.{Word}, declared.format.Word.TheVariants.{W32, W64}}
 use Rattle.oc_linking.specs.Parts.{is_local}
-use Rattle.oc_neutral.specs.declared.symbol.Symbol.{Symbol}
-use Rattle.oc_neutral.specs.Bindings.{is_zero}
-use Rattle.oc_neutral.specs.Dressing.{is_common}
-use Rattle.oc_neutral.specs.Mach.SectionSymbols.{needed_sections}
-use Rattle.oc_neutral.specs.Objects.{Object}
-use Rattle.oc_shows.specs.SymbolLines.{is_defined, is_undefined, is_weak_with}
+use Rattle.oc_neutral.specs.{declared.symbol.Symbol.{Symbol}, Bindings.{is_zero}, Dressing.{is_common}, Mach.SectionSymbols.{needed_sections}, Objects.{Object}}
 use Rattle.oc_neutral.specs.WrittenSymbols.{is_written}
+use Rattle.oc_shows.specs.SymbolLines.{is_defined, is_undefined, is_weak_with}
 use Rattle.oc_macho_file.specs.Lines.{Line, OwnLine, LocalLine, OuterLine, lines_of, line_name, lines_where, own_lines, local_lines, inner_lines, defined_lines, undefined_lines}
 use Rattle.oc_macho_file.specs.Layout.{line_names}
-use Rattle.oc_macho_file.proofs.CodedLaws.{IsForMach}
-use Rattle.oc_macho_file.proofs.CountLaws.{few_lines}
-use Rattle.oc_macho_file.proofs.NameLaws.{needed_low}
+use Rattle.oc_macho_file.proofs.{CodedLaws.{IsForMach}, CountLaws.{few_lines}, NameLaws.{needed_low}}
 
 -- a name with its NUL
 abbrev pub ended_size : List ℕ → ℕ

@@ -1,12 +1,9 @@
 -- The addresses of an object's sections, as they are made (our profile).
-use Rattle.std.specs.Prelude.{◌≡◌, ℕ, Bool, true, false, not, List, find}
-use Rattle.std.specs.List.{enumerate_from, filter}
-use Rattle.std.specs.Option.{option_map_or}
+use Rattle.std.specs.{Prelude.{◌≡◌, ℕ, Bool, true, false, not, List, find}, List.{enumerate_from, filter}, Option.{option_map_or}}
 use Rattle.oc_neutral.specs.Objects.{Object}
 use Rattle.oc_shelf.specs.Writing.Parts.{Laid, laid, laid_end}
 use Rattle.oc_macho_file.specs.Addresses.{Numbered, is_blank, section_begin, size_of, stored_end, memory_end}
-use Rattle.oc_macho_write.specs.declared.addresses.Addresses.{Addresses}
-use Rattle.oc_macho_write.specs.Values.{AreAddresses}
+use Rattle.oc_macho_write.specs.{declared.addresses.Addresses.{Addresses}, Values.{AreAddresses}}
 
 -- the section is one of those without bytes, or one of those with
 abbrev pub is_of : Bool → Numbered → Bool

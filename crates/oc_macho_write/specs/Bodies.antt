@@ -1,30 +1,17 @@
 -- What parts of a file hold, as a plan has them (Mach-O reference, "Mach-O Data Structures"; our profile).
 use Rattle.std.specs.Prelude.{◌≡◌, ℕ, ◌+◌, ◌*◌, ◌^◌, ◌<◌, List, [], ◌++◌, length, map, replicate, slice_index_or}
 use Rattle.oc_base.specs.declared.format.Word.{Word}
-use Rattle.oc_neutral.specs.declared.section.Section.{Section}
+use Rattle.oc_neutral.specs.{declared.section.Section.{Section}, Objects.{Object}}
 use Rattle.oc_shelf.specs.Writing.Parts.{table_of, HaveSize}
-use Rattle.oc_macho.specs.declared.load_command.TheConstants.{DYSYMTAB_COMMAND_SIZE}
-use Rattle.oc_macho.specs.declared.symtab_command.TheConstants.{SYMTAB_COMMAND_SIZE}
-use Rattle.oc_macho.specs.declared.relocation_info.TheConstants.{RELOCATION_INFO_SIZE}
-use Rattle.oc_macho.specs.MachHeader.{address_size, mach_header_size}
-use Rattle.oc_macho.specs.Nlist.{nlist_size}
-use Rattle.oc_macho.specs.SectionHeader.{section_header_size}
-use Rattle.oc_macho.specs.SegmentCommand.{segment_command_size}
-use Rattle.oc_macho_file.specs.Layout.{filled, strings_of}
+use Rattle.oc_macho.specs.{declared.load_command.TheConstants.{DYSYMTAB_COMMAND_SIZE}, declared.symtab_command.TheConstants.{SYMTAB_COMMAND_SIZE}}
+use Rattle.oc_macho.specs.{declared.relocation_info.TheConstants.{RELOCATION_INFO_SIZE}, MachHeader.{address_size, mach_header_size}, Nlist.{nlist_size}}
+use Rattle.oc_macho.specs.{SectionHeader.{section_header_size}, SegmentCommand.{segment_command_size}}
 use Rattle.oc_macho.specs.Structures.{mach_header_bytes, symtab_bytes, section_bytes, nlist_bytes, relocation_bytes}
-use Rattle.oc_macho_write.specs.declared.bodies.TheConstants.{DYSYMTAB_ZEROS}
-use Rattle.oc_macho_write.specs.declared.bodies.Bodies.{Bodies}
-use Rattle.oc_macho_write.specs.declared.heads.Heads.{Heads}
-use Rattle.oc_macho_write.specs.declared.parts.Part.{Part}
-use Rattle.oc_macho_write.specs.declared.parts.Part.TheVariants as part
-use Rattle.oc_neutral.specs.Objects.{Object}
-use Rattle.oc_macho_file.specs.Layout.{line_names}
-use Rattle.oc_macho_file.specs.Lines.{lines_of}
-use Rattle.oc_macho_file.specs.Symbols.{line_entry}
-use Rattle.oc_macho_write.specs.Relocations.{all_entries}
-use Rattle.oc_macho_write.specs.Strings.{table_with}
-use Rattle.oc_macho_write.specs.Words.{items_at, items_of}
 use Rattle.oc_macho.specs.Structures.{segment_front, segment_back, dysymtab_front}
+use Rattle.oc_macho_file.specs.{Layout.{filled, strings_of}, Layout.{line_names}, Lines.{lines_of}, Symbols.{line_entry}}
+use Rattle.oc_macho_write.specs.{declared.bodies.TheConstants.{DYSYMTAB_ZEROS}, declared.bodies.Bodies.{Bodies}, declared.heads.Heads.{Heads}}
+use Rattle.oc_macho_write.specs.{declared.parts.Part.{Part}, Relocations.{all_entries}, Strings.{table_with}, Words.{items_at, items_of}}
+use Rattle.oc_macho_write.specs.declared.parts.Part.TheVariants as part
 
 -- what a part holds, by these headers, the bytes of sections and these tables
 abbrev pub body_by : Word → Heads → List Section → Bodies → Part → List ℕ

@@ -1,27 +1,17 @@
 -- How relocations are written, and what their numbers are made of (Mach-O reference, "Relocation Data Structures").
-use Rattle.std.specs.Prelude.{◌≡◌, ℕ, ◌^◌, ◌<◌, true, length, slice_get, slice_index_or, is_some, IfSome, Some, Ok}
-use Rattle.std.specs.List.{AllByRecursion}
+use Rattle.std.specs.{Prelude.{◌≡◌, ℕ, ◌^◌, ◌<◌, true, length, slice_get, slice_index_or, is_some, IfSome, Some, Ok}, List.{AllByRecursion}}
 use Rattle.std.specs.Option.{option_and_then}
-use Rattle.oc_base.specs.declared.format.Word.{Word}
-use Rattle.oc_base.specs.declared.format.Word.TheVariants.{W32}
+use Rattle.oc_base.specs.{declared.format.Word.{Word}, declared.format.Word.TheVariants.{W32}}
 use Rattle.oc_linking.specs.declared.terms.Less.{Less}
 use Rattle.oc_linking.specs.declared.terms.Less.TheVariants as less
-use Rattle.oc_neutral.specs.declared.reloc.Reloc.{Reloc}
-use Rattle.oc_neutral.specs.declared.reloc.Target.{Target}
+use Rattle.oc_neutral.specs.{declared.reloc.Reloc.{Reloc}, declared.reloc.Target.{Target}, declared.symbol.Symbol.{Symbol}, KeySymbols.{global_place}}
+use Rattle.oc_neutral.specs.{Normal.{Place}, Objects.{Object}, Spelling.{written_row, numbers_in}}
 use Rattle.oc_neutral.specs.declared.reloc.Target.TheVariants as target
-use Rattle.oc_neutral.specs.declared.symbol.Symbol.{Symbol}
-use Rattle.oc_neutral.specs.KeySymbols.{global_place}
-use Rattle.oc_neutral.specs.Normal.{Place}
-use Rattle.oc_neutral.specs.Objects.{Object}
-use Rattle.oc_neutral.specs.Spelling.{written_row, numbers_in}
 use Rattle.oc_target.specs.declared.forms.Spelling.TheVariants as spelling
-use Rattle.oc_target.specs.Lookup.{answer_of}
-use Rattle.oc_target.specs.Meets.{HoldsAddend}
+use Rattle.oc_target.specs.{Lookup.{answer_of}, Meets.{HoldsAddend}}
 use Rattle.oc_macho.specs.MachHeader.{mach_format}
 use Rattle.oc_macho_file.specs.Bodies as bodies
-use Rattle.oc_macho_write.specs.declared.forms.FieldContext.{FieldContext}
-use Rattle.oc_macho_write.specs.declared.forms.SpelledReloc.{SpelledReloc}
-use Rattle.oc_macho_write.specs.Values.{AreAddresses}
+use Rattle.oc_macho_write.specs.{declared.forms.FieldContext.{FieldContext}, declared.forms.SpelledReloc.{SpelledReloc}, Values.{AreAddresses}}
 
 -- numbers are made of this object
 pub record IsFieldContext (w : Word) (n : Object) (x : FieldContext) : Type 0 where

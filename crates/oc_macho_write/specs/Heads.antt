@@ -2,20 +2,12 @@
 use Rattle.std.specs.Prelude.{◌≡◌, length, replicate}
 use Rattle.oc_base.specs.declared.format.Word.{Word}
 use Rattle.oc_neutral.specs.Objects.{Object}
-use Rattle.oc_macho.specs.declared.names.TheConstants.{NAME_SIZE}
-use Rattle.oc_macho.specs.declared.segment_command.SegmentCommand.{SegmentCommand}
-use Rattle.oc_macho.specs.declared.constants.TheConstants.{VM_PROT_ALL}
-use Rattle.oc_macho_file.specs.Addresses.{memory_end, stored_end}
-use Rattle.oc_macho_file.specs.Canonical.{file_header, section_headers, symtab_command}
-use Rattle.oc_macho_file.specs.Layout.{segment_length, contents_begin}
-use Rattle.oc_macho_file.specs.Lines.{inner_lines, defined_lines, undefined_lines}
-use Rattle.oc_macho.specs.declared.structures.Dysymtab.{Dysymtab}
+use Rattle.oc_macho.specs.{declared.names.TheConstants.{NAME_SIZE}, declared.segment_command.SegmentCommand.{SegmentCommand}}
+use Rattle.oc_macho.specs.{declared.constants.TheConstants.{VM_PROT_ALL}, declared.structures.Dysymtab.{Dysymtab}, MachHeader.{mach_format}}
+use Rattle.oc_macho_file.specs.{Addresses.{memory_end, stored_end}, Canonical.{file_header, section_headers, symtab_command}}
+use Rattle.oc_macho_file.specs.{Layout.{segment_length, contents_begin}, Lines.{inner_lines, defined_lines, undefined_lines}}
 use Rattle.oc_target.specs.Fitted.{IsFitted}
-use Rattle.oc_macho.specs.MachHeader.{mach_format}
-use Rattle.oc_macho_write.specs.declared.headers.Output.{Output}
-use Rattle.oc_macho_write.specs.declared.heads.Heads.{Heads}
-use Rattle.oc_macho_write.specs.Addresses.{AreAllAddresses}
-use Rattle.oc_macho_write.specs.Bodies.{AreBodies}
+use Rattle.oc_macho_write.specs.{declared.headers.Output.{Output}, declared.heads.Heads.{Heads}, Addresses.{AreAllAddresses}, Bodies.{AreBodies}}
 use Rattle.oc_macho_write.specs.Places.{ArePlaces}
 
 -- the object is ready for Mach-O, and all this was made of it

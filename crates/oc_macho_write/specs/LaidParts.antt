@@ -2,8 +2,7 @@
 use Rattle.std.specs.Prelude.{ℕ, List, map}
 use Rattle.oc_base.specs.declared.format.Word.{Word}
 use Rattle.oc_neutral.specs.Objects.{Object}
-use Rattle.oc_shelf.specs.declared.writing.layout.Layout.{Layout}
-use Rattle.oc_shelf.specs.Writing.Parts.{Laid, laid}
+use Rattle.oc_shelf.specs.{declared.writing.layout.Layout.{Layout}, Writing.Parts.{Laid, laid}}
 use Rattle.oc_shelf.specs.Writing.Parts as placed
 use Rattle.oc_macho_file.specs.Layout.{Part, part_begin, part_size}
 

@@ -1,19 +1,15 @@
 -- The lines of the symbol table by positions (Mach-O reference, "nlist"; our profile).
-use Rattle.std.specs.Prelude.{◌≡◌, ◌++◌, ◌<◌, Bool, List, length, slice_get, Option, Some, map}
-use Rattle.std.specs.Option.{option_map}
+use Rattle.std.specs.{Prelude.{◌≡◌, ◌++◌, ◌<◌, Bool, List, length, slice_get, Option, Some, map}, Option.{option_map}}
 use Rattle.oc_base.specs.declared.format.Word.{Word}
 use Rattle.oc_linking.specs.declared.terms.Binding.{Binding}
-use Rattle.oc_neutral.specs.Bindings.{is_zero}
-use Rattle.oc_neutral.specs.Dressing.{is_common}
+use Rattle.oc_neutral.specs.{Bindings.{is_zero}, Dressing.{is_common}, Objects.{Object}}
 use Rattle.oc_shows.specs.SymbolLines.{is_defined, is_undefined, is_weak_with}
-use Rattle.oc_neutral.specs.Objects.{Object}
 use Rattle.oc_target.specs.Fitted.{IsFitted}
 use Rattle.oc_macho.specs.MachHeader.{mach_format}
 use Rattle.oc_macho_file.specs.Lines as lines
-use Rattle.oc_macho_write.specs.declared.lines.Line.{Line}
-use Rattle.oc_macho_write.specs.declared.lines.Line.TheVariants as line
-use Rattle.oc_macho_write.specs.declared.lines.Outer.{Outer}
+use Rattle.oc_macho_write.specs.{declared.lines.Line.{Line}, declared.lines.Outer.{Outer}}
 use Rattle.oc_macho_write.specs.declared.lines.Outer.TheVariants.{Defined, Undefined, Common, Optional}
+use Rattle.oc_macho_write.specs.declared.lines.Line.TheVariants as line
 
 -- the line with the symbol at its position, if that exists
 abbrev pub line_in : Object → Line → Option lines.Line

@@ -1,16 +1,13 @@
 -- The numbers of the symbols in the symbol table (Mach-O reference, "nlist").
 use Rattle.std.specs.Prelude.{◌≡◌, ℕ, ◌^◌, ◌<◌, ◌+◌, Bool, List, length, slice_index_or, Some}
 use Rattle.oc_base.specs.declared.format.Word.{Word}
-use Rattle.oc_neutral.specs.declared.reloc.Target.{Target}
+use Rattle.oc_neutral.specs.{declared.reloc.Target.{Target}, Objects.{Object}}
 use Rattle.oc_neutral.specs.declared.reloc.Target.TheVariants as target
-use Rattle.oc_neutral.specs.Objects.{Object}
 use Rattle.oc_plans.specs.Slots.{IsSetWhere}
 use Rattle.oc_macho_file.specs.Lines as lines
 use Rattle.oc_macho_file.specs.Lines.{numbered_lines, own_number, symbol_number}
-use Rattle.oc_macho_write.specs.declared.lines.Line.{Line}
+use Rattle.oc_macho_write.specs.{declared.lines.Line.{Line}, Lines.{line_in}, declared.numbers.Numbers.{Numbers}}
 use Rattle.oc_macho_write.specs.declared.lines.Line.TheVariants as line
-use Rattle.oc_macho_write.specs.Lines.{line_in}
-use Rattle.oc_macho_write.specs.declared.numbers.Numbers.{Numbers}
 
 -- as many numbers as the object has sections and symbols
 pub record AreSized (n : Object) (x : Numbers) : Type 0 where

@@ -1,6 +1,5 @@
 -- The parts of the file by positions (our profile).
-use Rattle.std.specs.Prelude.{◌≡◌, ◌++◌, List, slice_get, Option, Some, map}
-use Rattle.std.specs.Option.{option_map}
+use Rattle.std.specs.{Prelude.{◌≡◌, ◌++◌, List, slice_get, Option, Some, map}, Option.{option_map}}
 use Rattle.oc_neutral.specs.Objects.{Object}
 use Rattle.oc_macho_file.specs.Layout as layout
 use Rattle.oc_macho_write.specs.declared.parts.Part.{Part}

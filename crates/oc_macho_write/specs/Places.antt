@@ -5,10 +5,8 @@ use Rattle.oc_neutral.specs.Objects.{Object}
 use Rattle.oc_plans.specs.Slots.{IsSetWhere}
 use Rattle.oc_macho_file.specs.Layout as layout
 use Rattle.oc_macho_file.specs.Layout.{part_where, is_raw, is_relocs, is_symbol_table, is_string_table}
-use Rattle.oc_macho_write.specs.declared.parts.Part.{Part}
+use Rattle.oc_macho_write.specs.{declared.parts.Part.{Part}, declared.places.Places.{Places}, Parts.{part_in}}
 use Rattle.oc_macho_write.specs.declared.parts.Part.TheVariants as part
-use Rattle.oc_macho_write.specs.declared.places.Places.{Places}
-use Rattle.oc_macho_write.specs.Parts.{part_in}
 
 -- as many places as the object has sections
 pub record HasRoom (n : Object) (x : Places) : Type 0 where

@@ -1,13 +1,8 @@
 -- Planned files: their parts (our profile).
-use Rattle.std.specs.Prelude.{◌≡◌, ℕ, ◌^◌, ◌<◌, List, [], length, map, slice_index_or}
-use Rattle.std.specs.List.{AllByRecursion}
+use Rattle.std.specs.{Prelude.{◌≡◌, ℕ, ◌^◌, ◌<◌, List, [], length, map, slice_index_or}, List.{AllByRecursion}}
 use Rattle.oc_base.specs.declared.format.Word.{Word}
-use Rattle.oc_neutral.specs.declared.section.Section.{Section}
-use Rattle.oc_neutral.specs.Objects.{Object}
-use Rattle.oc_macho_write.specs.declared.plan.MachParts.{MachParts}
-use Rattle.oc_macho_write.specs.Bodies.{AreBodies, body_by, HasBody, IsHeaded}
-use Rattle.oc_macho_write.specs.Heads.{AreHeads}
-use Rattle.oc_macho_write.specs.Parts.{AreParts}
+use Rattle.oc_neutral.specs.{declared.section.Section.{Section}, Objects.{Object}}
+use Rattle.oc_macho_write.specs.{declared.plan.MachParts.{MachParts}, Bodies.{AreBodies, body_by, HasBody, IsHeaded}, Heads.{AreHeads}, Parts.{AreParts}}
 use Rattle.oc_macho_write.specs.Relocations.{all_raws}
 
 -- the bytes of the parts of a file

@@ -1,17 +1,11 @@
 -- The relocation entries and the bytes of all sections of an output (Mach-O reference, "Relocation Data Structures"; our profile).
-use Rattle.std.specs.Prelude.{◌≡◌, ℕ, List, length, map}
-use Rattle.std.specs.List.{enumerate_from}
-use Rattle.std.specs.Option.{option_map_or}
+use Rattle.std.specs.{Prelude.{◌≡◌, ℕ, List, length, map}, List.{enumerate_from}, Option.{option_map_or}}
 use Rattle.oc_base.specs.declared.format.Word.{Word}
-use Rattle.oc_neutral.specs.declared.section.Section.{Section}
-use Rattle.oc_neutral.specs.declared.reloc.Reloc.{Reloc}
-use Rattle.oc_neutral.specs.Objects.{Object}
+use Rattle.oc_neutral.specs.{declared.section.Section.{Section}, declared.reloc.Reloc.{Reloc}, Objects.{Object}}
 use Rattle.oc_plans.specs.Numbered.{Numbering}
 use Rattle.oc_macho.specs.declared.relocation_info.RelocationInfo.{RelocationInfo}
-use Rattle.oc_macho_file.specs.Bodies.{field_number, raw_of, written_reloc_at}
-use Rattle.oc_macho_file.specs.Layout.{relocs_of}
-use Rattle.oc_macho_write.specs.declared.forms.FieldContext.{FieldContext}
-use Rattle.oc_macho_write.specs.declared.numbers.Numbers.{Numbers}
+use Rattle.oc_macho_file.specs.{Bodies.{field_number, raw_of, written_reloc_at}, Layout.{relocs_of}}
+use Rattle.oc_macho_write.specs.{declared.forms.FieldContext.{FieldContext}, declared.numbers.Numbers.{Numbers}}
 use Rattle.oc_macho_write.specs.Forms.{CanWrite, FieldHolds, IsReady, IsFieldContext}
 
 -- the relocation entries of each section

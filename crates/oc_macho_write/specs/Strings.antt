@@ -3,10 +3,8 @@ use Rattle.std.specs.Prelude.{◌≡◌, ℕ, List}
 use Rattle.oc_base.specs.declared.format.Word.{Word}
 use Rattle.oc_neutral.specs.Objects.{Object}
 use Rattle.oc_macho_file.specs.Layout.{line_names}
-use Rattle.oc_macho_write.specs.declared.lines.Line.{Line}
-use Rattle.oc_macho_write.specs.Lines.{AreLines}
+use Rattle.oc_macho_write.specs.{declared.lines.Line.{Line}, Lines.{AreLines}, declared.strings.TheConstants.{STRINGS_HEAD}}
 use Rattle.oc_strings.specs.Tables.{StringTable}
-use Rattle.oc_macho_write.specs.declared.strings.TheConstants.{STRINGS_HEAD}
 
 -- the table of these names, whose first text comes after the empty name
 abbrev pub table_with : List (List ℕ) → StringTable

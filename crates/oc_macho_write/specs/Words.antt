@@ -1,6 +1,5 @@
 -- Lists in vectors, by positions.
-use Rattle.std.specs.Prelude.{ℕ, List, [], map, slice_index_or, Vec}
-use Rattle.std.specs.Global.{Global}
+use Rattle.std.specs.{Prelude.{ℕ, List, [], map, slice_index_or, Vec}, Global.{Global}}
 
 -- the lists that vectors hold
 abbrev pub items_of : {X : Type 0} → List (Vec X Global) → List (List X)

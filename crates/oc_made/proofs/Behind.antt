@@ -2,9 +2,7 @@
 use Rattle.std.proofs.Common.{◌≡◌, ℕ, ◌+◌, ◌^◌, ◌≤◌, false, cond, nat_lt, List, [], ◌∷◌, ◌++◌, length, set, refl, ◌∙◌, ap, arith}
 use Rattle.std.specs.List.{list_any}
 use Rattle.std.proofs.lemmas.Bool.Decides.{nat_tests}
-use Rattle.oc_chains.specs.declared.field.Field.{Field}
-use Rattle.oc_chains.specs.Fields.{FollowFrom, end_of, field, meets, placed}
-use Rattle.oc_chains.specs.Lists.{Lists}
+use Rattle.oc_chains.specs.{declared.field.Field.{Field}, Fields.{FollowFrom, end_of, field, meets, placed}, Lists.{Lists}}
 use Rattle.oc_neutral.specs.declared.reloc.Reloc.{Reloc}
 
 -- it begins behind the place from which all follow

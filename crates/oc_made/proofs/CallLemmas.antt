@@ -1,12 +1,9 @@
 -- The calls: that they follow one another, how many they are, and what holds of each.
 use Rattle.std.proofs.Common.{◌≡◌, ℕ, zero, suc, ◌+◌, ◌*◌, ◌%◌, ◌<◌, ◌≤◌, min, List, [], ◌∷◌, ◌++◌, length, refl, ◌∙◌, ap, subst, arith, append_assoc, length-append}
-use Rattle.std.specs.Prelude.{flat_map}
-use Rattle.std.specs.List.{AllByRecursion, range_with_len}
-use Rattle.std.proofs.lemmas.List.{append-nil}
-use Rattle.std.proofs.lemmas.Nat.{mod_below}
+use Rattle.std.specs.{Prelude.{flat_map}, List.{AllByRecursion, range_with_len}}
+use Rattle.std.proofs.lemmas.{List.{append-nil}, Nat.{mod_below}}
 use Rattle.oc_base.specs.declared.format.Word.{Word}
-use Rattle.oc_chains.specs.declared.field.Field.{Field}
-use Rattle.oc_chains.specs.Fields.{field, FollowFrom}
+use Rattle.oc_chains.specs.{declared.field.Field.{Field}, Fields.{field, FollowFrom}}
 use Rattle.oc_neutral.specs.declared.reloc.Reloc.{Reloc}
 use Rattle.oc_made.specs.Functions.{call, calls_by, calls_of}
 

@@ -1,11 +1,8 @@
 -- What holds of each part of a list, and stages without faults.
 use Rattle.std.proofs.Common.{◌≡◌, ℕ, zero, suc, ◌+◌, ◌*◌, ◌<◌, ◌≤◌, List, [], ◌∷◌, ◌++◌, length, get_or, map, Option, Some, None, refl, ◌∙◌, ap, inl, inr, ◌⊎◌, arith}
-use Rattle.std.specs.Prelude.{slice_get, sum_by}
-use Rattle.std.specs.List.{AllByRecursion, range_with_len}
-use Rattle.std.specs.Option.{option_map_or}
+use Rattle.std.specs.{Prelude.{slice_get, sum_by}, List.{AllByRecursion, range_with_len}, Option.{option_map_or}}
 use Rattle.std.proofs.lemmas.List.Sums.{sum_by-cons}
-use Rattle.oc_linking.specs.FirstFault.{Condition, first_broken}
-use Rattle.oc_linking.specs.Numbers.{or_else, first_upto}
+use Rattle.oc_linking.specs.{FirstFault.{Condition, first_broken}, Numbers.{or_else, first_upto}}
 
 -- of two lists, one behind the other
 pub all_joined : {X : Type 0} (P : X → Type 0) (xs ys : List X) → AllByRecursion P xs → AllByRecursion P ys → AllByRecursion P (xs ++ ys)

@@ -1,12 +1,8 @@
 -- The names of the symbols: their bytes, their lengths, and that they differ.
 use Rattle.std.proofs.Common.{◌≡◌, ℕ, ◌+◌, ◌%◌, ◌^◌, ◌<◌, ◌≤◌, false, List, [], ◌∷◌, length, refl, arith}
-use Rattle.std.specs.Prelude.{nat_eq}
-use Rattle.std.specs.Fmt.{decimal}
-use Rattle.std.specs.List.{AllByRecursion}
-use Rattle.std.proofs.lemmas.Bool.{ne_eqb}
-use Rattle.std.proofs.lemmas.Fmt.{decimal_by_steps, decimal_injective, length-decimal-le}
-use Rattle.oc_neutral.specs.Invariants.{AreBytes}
-use Rattle.oc_neutral.specs.KindRules.{has_nul}
+use Rattle.std.specs.{Prelude.{nat_eq}, Fmt.{decimal}, List.{AllByRecursion}}
+use Rattle.std.proofs.lemmas.{Bool.{ne_eqb}, Fmt.{decimal_by_steps, decimal_injective, length-decimal-le}}
+use Rattle.oc_neutral.specs.{Invariants.{AreBytes}, KindRules.{has_nul}}
 use Rattle.oc_made.proofs.Lists.{all_joined}
 
 -- digits in a text

@@ -1,45 +1,24 @@
 -- What is made is ready for ELF.
 use Rattle.std.proofs.Common.{◌≡◌, ℕ, zero, suc, ◌+◌, ◌*◌, ◌%◌, ◌≤◌, Bool, false, cond, ◌||◌, [], ◌∷◌, length, Option, Some, None, refl, ◌∙◌, ap, subst, arith}
-use Rattle.std.specs.Prelude.{slice_get}
-use Rattle.std.specs.Fmt.{decimal}
-use Rattle.std.specs.List.{AllByRecursion, range_with_len}
-use Rattle.std.specs.Option.{option_map_or}
-use Rattle.std.proofs.lemmas.Bool.{le-ltb}
-use Rattle.std.proofs.lemmas.List.Sums.{count_by-le-length}
-use Rattle.std.proofs.lemmas.Option.{none-some, same_Some}
-use Rattle.oc_base.specs.declared.format.Word.{Word}
-use Rattle.oc_base.specs.declared.format.Word.TheVariants.{W32, W64}
-use Rattle.oc_base.specs.declared.format.Format.{Format}
+use Rattle.std.specs.{Prelude.{slice_get}, Fmt.{decimal}, List.{AllByRecursion, range_with_len}, Option.{option_map_or}}
+use Rattle.std.proofs.lemmas.{Bool.{le-ltb}, List.Sums.{count_by-le-length}, Option.{none-some, same_Some}}
+use Rattle.oc_base.specs.{declared.format.Word.{Word}, declared.format.Word.TheVariants.{W32, W64}, declared.format.Format.{Format}}
 use Rattle.oc_base.specs.declared.fault.Fault.{Fault}
-use Rattle.oc_linking.specs.FirstFault.{first_broken}
-use Rattle.oc_linking.specs.Numbers.{or_else, first_upto}
-use Rattle.oc_algebra.specs.Fields.{to_field_of, field_for}
-use Rattle.oc_algebra.specs.Residues.{reduced_number, residue_of}
+use Rattle.oc_linking.specs.{FirstFault.{first_broken}, Numbers.{or_else, first_upto}}
+use Rattle.oc_algebra.specs.{Fields.{to_field_of, field_for}, Residues.{reduced_number, residue_of}}
 use Rattle.oc_chains.specs.declared.field.Field.{Field}
-use Rattle.oc_neutral.specs.declared.reloc.Reloc.{Reloc}
-use Rattle.oc_neutral.specs.declared.reloc.Target.TheVariants as target
-use Rattle.oc_neutral.specs.declared.section.Section.{Section}
-use Rattle.oc_neutral.specs.declared.symbol.Symbol.{Symbol}
-use Rattle.oc_neutral.specs.Alignments.{output_align}
-use Rattle.oc_neutral.specs.Elf.Family.{elf_symbol_count, header_count}
-use Rattle.oc_target.specs.Fitted.{first_unfit, fitted_binding, IsFitted, IsNamed}
-use Rattle.oc_neutral.specs.HomeNames.{is_home, output_names}
-use Rattle.oc_neutral.specs.KindRules.{has_nul}
-use Rattle.oc_neutral.specs.Objects.{Object}
-use Rattle.oc_shows.specs.Readable.{IsBlankWhereTyped}
-use Rattle.oc_neutral.specs.Relocated.{is_relocated}
-use Rattle.oc_neutral.specs.Shifts.{field_shift}
-use Rattle.oc_neutral.specs.Spelling.{written_row}
-use Rattle.oc_neutral.specs.Stored.{is_stored}
+use Rattle.oc_neutral.specs.{declared.reloc.Reloc.{Reloc}, declared.section.Section.{Section}, declared.symbol.Symbol.{Symbol}, Alignments.{output_align}}
+use Rattle.oc_neutral.specs.{Elf.Family.{elf_symbol_count, header_count}, HomeNames.{is_home, output_names}, KindRules.{has_nul}, Objects.{Object}}
+use Rattle.oc_neutral.specs.{Relocated.{is_relocated}, Shifts.{field_shift}, Spelling.{written_row}, Stored.{is_stored}}
 use Rattle.oc_neutral.specs.TargetRelocations.{is_local_number, is_target, is_wrong_target, reloc_conditions, placed_relocs, standing_conditions, placed_relocs_in, PlacedReloc}
 use Rattle.oc_neutral.specs.TargetSections.{conditions_at, each_of, section_conditions, section_count, section_stages}
 use Rattle.oc_neutral.specs.TargetSymbols.{names_length, symbol_conditions, symbol_count, symbol_stages}
+use Rattle.oc_neutral.specs.declared.reloc.Target.TheVariants as target
+use Rattle.oc_target.specs.Fitted.{first_unfit, fitted_binding, IsFitted, IsNamed}
+use Rattle.oc_shows.specs.Readable.{IsBlankWhereTyped}
 use Rattle.oc_made.specs.Functions.{call, calls_of, elf_format, made_object, symbols_of, text_section}
-use Rattle.oc_made.proofs.CallLemmas.{all_calls}
-use Rattle.oc_made.proofs.Lists.{all_joined, none_broken, none_upto}
-use Rattle.oc_made.proofs.NameLemmas.{number_uncut}
-use Rattle.oc_made.proofs.SymbolLemmas.{all_symbols, at_symbol, length-symbols_of, names_short}
-use Rattle.oc_made.proofs.WholeObject.{made_is_object}
+use Rattle.oc_made.proofs.{CallLemmas.{all_calls}, Lists.{all_joined, none_broken, none_upto}, NameLemmas.{number_uncut}}
+use Rattle.oc_made.proofs.{SymbolLemmas.{all_symbols, at_symbol, length-symbols_of, names_short}, WholeObject.{made_is_object}}
 use Rattle.oc_neutral.proofs.LeftObject.{all_map}
 
 -- a condition that is not broken

@@ -1,22 +1,15 @@
 -- The object of a few functions, worked by hand.
 use Rattle.std.proofs.Common.{◌≡◌, ℕ, List, [], ◌∷◌, map, refl}
-use Rattle.std.specs.Prelude.{codes, drop, length, negsuc}
-use Rattle.std.specs.Fmt.{digits}
-use Rattle.oc_base.specs.declared.format.Format.TheVariants.{Elf64}
-use Rattle.oc_base.specs.declared.format.Word.TheVariants.{W32, W64}
+use Rattle.std.specs.{Prelude.{codes, drop, length, negsuc}, Fmt.{digits}}
+use Rattle.oc_base.specs.{declared.format.Format.TheVariants.{Elf64}, declared.format.Word.TheVariants.{W32, W64}}
 use Rattle.oc_linking.specs.declared.terms.Base.TheVariants as base
-use Rattle.oc_linking.specs.declared.terms.Binding.{Binding}
-use Rattle.oc_linking.specs.declared.terms.Binding.TheVariants.{Global, Undefined}
-use Rattle.oc_linking.specs.declared.terms.Check.TheVariants.{Signed}
-use Rattle.oc_linking.specs.declared.terms.Hint.TheVariants.{Plain}
+use Rattle.oc_linking.specs.{declared.terms.Binding.{Binding}, declared.terms.Binding.TheVariants.{Global, Undefined}}
+use Rattle.oc_linking.specs.{declared.terms.Check.TheVariants.{Signed}, declared.terms.Hint.TheVariants.{Plain}, declared.terms.Width.TheVariants.{Four}}
 use Rattle.oc_linking.specs.declared.terms.Less.TheVariants as less
 use Rattle.oc_linking.specs.declared.terms.Value.TheVariants as value
-use Rattle.oc_linking.specs.declared.terms.Width.TheVariants.{Four}
 use Rattle.oc_chains.specs.declared.field.Field.{Field}
-use Rattle.oc_neutral.specs.declared.reloc.Reloc.{Reloc}
-use Rattle.oc_neutral.specs.declared.reloc.Target.{Target}
+use Rattle.oc_neutral.specs.{declared.reloc.Reloc.{Reloc}, declared.reloc.Target.{Target}, declared.symbol.Symbol.{Symbol}}
 use Rattle.oc_neutral.specs.declared.reloc.Target.TheVariants as target
-use Rattle.oc_neutral.specs.declared.symbol.Symbol.{Symbol}
 use Rattle.oc_made.specs.Functions.{calls_of, code_of, made_object, symbols_of}
 
 -- the name and the number of a symbol

@@ -1,20 +1,11 @@
 -- The symbols: what stands at each position, that names differ, and that numbers do.
 use Rattle.std.proofs.Common.{◌≡◌, ℕ, ◌+◌, ◌*◌, ◌<◌, ◌≤◌, List, ◌++◌, length, get_or, map, min, Option, Some, None, refl, sym, ◌∙◌, ap, subst, inl, inr, ◌⊎◌, arith, length-append}
-use Rattle.std.specs.Prelude.{codes, drop, slice_get, sum_by}
-use Rattle.std.specs.Fmt.{decimal}
-use Rattle.std.specs.List.{AllByRecursion, range_with_len}
-use Rattle.std.specs.Option.{option_map_or, option_and_then}
-use Rattle.std.proofs.lemmas.List.FromFn.{length-map-range_with_len}
-use Rattle.std.proofs.lemmas.List.Sums.{sum_by-append}
-use Rattle.std.proofs.lemmas.Option.{slice_get-get_or}
-use Rattle.oc_neutral.specs.declared.symbol.Symbol.{Symbol}
+use Rattle.std.specs.{Prelude.{codes, drop, slice_get, sum_by}, Fmt.{decimal}, List.{AllByRecursion, range_with_len}, Option.{option_map_or, option_and_then}}
+use Rattle.std.proofs.lemmas.{List.FromFn.{length-map-range_with_len}, List.Sums.{sum_by-append}, Option.{slice_get-get_or}}
+use Rattle.oc_neutral.specs.{declared.symbol.Symbol.{Symbol}, Faces.{number_of}, Invariants.{AreDistinct, IsOriginal}, Normal.{local_place, place_among}}
 use Rattle.oc_neutral.specs.declared.reloc.Target.TheVariants as target
-use Rattle.oc_neutral.specs.Faces.{number_of}
-use Rattle.oc_neutral.specs.Invariants.{AreDistinct, IsOriginal}
-use Rattle.oc_neutral.specs.Normal.{local_place, place_among}
 use Rattle.oc_made.specs.Functions.{function_symbol, outside_symbol, symbols_of}
-use Rattle.oc_made.proofs.Lists.{all_joined, all_range, joined_get, sum_range}
-use Rattle.oc_made.proofs.NameLemmas.{number_short, numbers_differ}
+use Rattle.oc_made.proofs.{Lists.{all_joined, all_range, joined_get, sum_range}, NameLemmas.{number_short, numbers_differ}}
 use Rattle.oc_elf_file.proofs.RepeatLemmas.{at_range}
 
 -- symbol k outside

@@ -1,24 +1,17 @@
 -- What is made is an object.
 use Rattle.std.proofs.Common.{◌≡◌, ℕ, zero, suc, ◌+◌, ◌*◌, ◌%◌, ◌<◌, ◌≤◌, min, List, [], ◌∷◌, length, Some, refl, subst, arith}
-use Rattle.std.specs.Prelude.{negsuc, slice_get}
-use Rattle.std.specs.List.{AllByRecursion}
+use Rattle.std.specs.{Prelude.{negsuc, slice_get}, List.{AllByRecursion}}
 use Rattle.std.proofs.lemmas.Option.{none-some, same_Some}
-use Rattle.oc_base.specs.declared.format.Word.{Word}
-use Rattle.oc_base.specs.declared.format.Word.TheVariants.{W32, W64}
-use Rattle.oc_base.specs.Formats.{word_for}
+use Rattle.oc_base.specs.{declared.format.Word.{Word}, declared.format.Word.TheVariants.{W32, W64}, Formats.{word_for}}
 use Rattle.oc_linking.specs.Numbers.{modulus}
 use Rattle.oc_algebra.specs.Residues.{reduced_number, residue_of}
-use Rattle.oc_chains.specs.declared.field.Field.{Field}
-use Rattle.oc_chains.specs.Fields.{FollowFrom}
-use Rattle.oc_chains.specs.Lists.{list_of}
-use Rattle.oc_neutral.specs.declared.reloc.Reloc.{Reloc}
-use Rattle.oc_neutral.specs.declared.section.Section.{Section}
+use Rattle.oc_chains.specs.{declared.field.Field.{Field}, Fields.{FollowFrom}, Lists.{list_of}}
+use Rattle.oc_neutral.specs.{declared.reloc.Reloc.{Reloc}, declared.section.Section.{Section}}
 use Rattle.oc_neutral.specs.Invariants.{IsBuilt, IsComplete, IsHeld, IsHinted, IsNormal, IsObject, IsSection, IsSymbol, HoldsFields, NamesOriginal}
 use Rattle.oc_neutral.specs.Objects.{Object}
 use Rattle.oc_made.specs.Functions.{call, calls_of, elf_format, code_of, function_symbol, made_object, outside_symbol, symbols_of, text_section}
 use Rattle.oc_made.proofs.CallLemmas.{all_calls, callee_low, calls_follow, length-calls_of, outsider_low}
-use Rattle.oc_made.proofs.CodeLemmas.{code_bytes, first_blank, length-code_of, second_blank}
-use Rattle.oc_made.proofs.NameLemmas.{number_bytes}
+use Rattle.oc_made.proofs.{CodeLemmas.{code_bytes, first_blank, length-code_of, second_blank}, NameLemmas.{number_bytes}}
 use Rattle.oc_made.proofs.SymbolLemmas.{all_symbols, length-symbols_of, names_differ, no_place, original_at}
 
 -- the list of the one section

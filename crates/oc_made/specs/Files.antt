@@ -1,9 +1,7 @@
 -- The object as a file (our profile).
 use Rattle.std.specs.Prelude.{ℕ, List}
-use Rattle.oc_base.specs.declared.format.Word.{Word}
-use Rattle.oc_base.specs.declared.format.Word.TheVariants.{W32, W64}
-use Rattle.oc_elf.specs.declared.class.ElfClass.{ElfClass}
-use Rattle.oc_elf.specs.declared.class.ElfClass.TheVariants.{Class32, Class64}
+use Rattle.oc_base.specs.{declared.format.Word.{Word}, declared.format.Word.TheVariants.{W32, W64}}
+use Rattle.oc_elf.specs.{declared.class.ElfClass.{ElfClass}, declared.class.ElfClass.TheVariants.{Class32, Class64}}
 use Rattle.oc_elf_file.specs.Canonical.{elf_file}
 use Rattle.oc_made.specs.Functions.{made_object}
 

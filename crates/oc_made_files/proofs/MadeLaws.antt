@@ -1,66 +1,31 @@
 -- A file that was made for an object shows the object that is seen.
 use Rattle.std.proofs.Common.{◌≡◌, ℕ, zero, suc, ◌+◌, ◌<◌, ◌⊎◌, inl, inr, Bool, true, false, cond, ℤ, List, [], ◌∷◌, length, map, replicate, get_or, Option, Some, None, refl, sym, ◌∙◌, ap, subst, arith}
-use Rattle.std.specs.Prelude.{slice_get}
-use Rattle.std.specs.List.{enumerate_from}
-use Rattle.std.specs.Option.{option_map, unwrap_or}
-use Rattle.std.proofs.lemmas.Bool.{cases_lt, true≢false}
-use Rattle.std.proofs.lemmas.Int.{ints}
-use Rattle.std.proofs.lemmas.List.{length-replicate}
-use Rattle.std.proofs.lemmas.Option.{same_Some}
-use Rattle.oc_base.specs.declared.format.Format.{Format}
-use Rattle.oc_base.specs.Formats.{word_for}
-use Rattle.oc_linking.specs.declared.terms.Base.{Base}
+use Rattle.std.specs.{Prelude.{slice_get}, List.{enumerate_from}, Option.{option_map, unwrap_or}}
+use Rattle.std.proofs.lemmas.{Bool.{cases_lt, true≢false}, Int.{ints}, List.{length-replicate}, Option.{same_Some}}
+use Rattle.oc_base.specs.{declared.format.Format.{Format}, Formats.{word_for}}
+use Rattle.oc_linking.specs.{declared.terms.Base.{Base}, declared.terms.Binding.{Binding}}
+use Rattle.oc_linking.specs.{declared.terms.Binding.TheVariants.{Local, Global, Undefined, Common, Weak}, declared.terms.Patch.{Patch}, Fits.{bytes_of}}
+use Rattle.oc_linking.specs.{Images.{overlay}, Keeping.{all, keeps}, Parts.{is_local}, Rules.{Symbolic}, Targets.{named_by}}
 use Rattle.oc_linking.specs.declared.terms.Base.TheVariants as base
-use Rattle.oc_linking.specs.declared.terms.Binding.{Binding}
-use Rattle.oc_linking.specs.declared.terms.Binding.TheVariants.{Local, Global, Undefined, Common, Weak}
-use Rattle.oc_linking.specs.declared.terms.Patch.{Patch}
-use Rattle.oc_linking.specs.Fits.{bytes_of}
-use Rattle.oc_linking.specs.Images.{overlay}
-use Rattle.oc_linking.specs.Keeping.{all, keeps}
 use Rattle.oc_linking.specs.Parts as parts
-use Rattle.oc_linking.specs.Parts.{is_local}
-use Rattle.oc_linking.specs.Rules.{Symbolic}
 use Rattle.oc_linking.specs.Targets as file
-use Rattle.oc_linking.specs.Targets.{named_by}
-use Rattle.oc_linking.proofs.Overlay.{length-overlay}
-use Rattle.oc_linking.proofs.Storing.{others_stay}
-use Rattle.oc_linking.proofs.Whole.{keeps-all}
-use Rattle.oc_neutral.specs.declared.section.Section.{Section}
-use Rattle.oc_neutral.specs.declared.symbol.Symbol.{Symbol}
-use Rattle.oc_neutral.specs.declared.reloc.Reloc.{Reloc}
-use Rattle.oc_neutral.specs.declared.reloc.Target.{Target}
+use Rattle.oc_linking.proofs.{Overlay.{length-overlay}, Storing.{others_stay}, Whole.{keeps-all}}
+use Rattle.oc_neutral.specs.{declared.section.Section.{Section}, declared.symbol.Symbol.{Symbol}, declared.reloc.Reloc.{Reloc}, declared.reloc.Target.{Target}}
+use Rattle.oc_neutral.specs.{Objects.{Object, reloc_at}, Building.{is_zero}, Dialects.{Dialect, kept_fields}}
+use Rattle.oc_neutral.specs.{Faces.{shown_binding, shown_section, shown_symbol, shown_symbols, frame_of}, Families.{container_of}}
+use Rattle.oc_neutral.specs.{Family.{Container, IsElf, IsCoff, IsMach, IsOmf}, Invariants.{HasItsBytes, IsObject, IsThere}}
+use Rattle.oc_neutral.specs.{Normal.{Place, at_section, moved_addend}, Rows.{Row}}
 use Rattle.oc_neutral.specs.declared.reloc.Target.TheVariants as target
-use Rattle.oc_neutral.specs.Objects.{Object, reloc_at}
-use Rattle.oc_shows.specs.Again.{IsCovered, HasContents, IsReadAgain}
-use Rattle.oc_neutral.specs.Building.{is_zero}
-use Rattle.oc_shows.specs.Built.{IsField, IsFree, IsGiven}
-use Rattle.oc_neutral.specs.Dialects.{Dialect, kept_fields}
-use Rattle.oc_neutral.specs.Faces.{shown_binding, shown_section, shown_symbol, shown_symbols, frame_of}
-use Rattle.oc_neutral.specs.Families.{container_of}
-use Rattle.oc_neutral.specs.Family.{Container, IsElf, IsCoff, IsMach, IsOmf}
-use Rattle.oc_target.specs.Fitted.{IsFitted}
-use Rattle.oc_neutral.specs.Invariants.{HasItsBytes, IsObject, IsThere}
-use Rattle.oc_shows.specs.Manners.{Manner, manner_of, own_manner}
-use Rattle.oc_neutral.specs.Normal.{Place, at_section, moved_addend}
-use Rattle.oc_shows.specs.Readable.{AreZeros}
-use Rattle.oc_shows.specs.RowFields.{IsTarget, place_target, row_field}
-use Rattle.oc_shows.specs.RowValues.{row_reloc}
-use Rattle.oc_neutral.specs.Rows.{Row}
+use Rattle.oc_shows.specs.{Again.{IsCovered, HasContents, IsReadAgain}, Built.{IsField, IsFree, IsGiven}, Manners.{Manner, manner_of, own_manner}}
+use Rattle.oc_shows.specs.{Readable.{AreZeros}, RowFields.{IsTarget, place_target, row_field}, RowValues.{row_reloc}}
 use Rattle.oc_shows.specs.Seen.{new_position, section_place, seen, seen_binding, seen_reloc, seen_section, seen_symbol, seen_symbols, seen_target}
-use Rattle.oc_shows.specs.Shows.{AreNumbered, Shows}
-use Rattle.oc_shows.specs.SymbolLines.{omf_lines}
-use Rattle.oc_shows.proofs.AgainLaws.{inside_of, read_again_shows}
-use Rattle.oc_neutral.proofs.Mapped.{from_mapped}
-use Rattle.oc_neutral.proofs.Formats.{of_omf}
-use Rattle.oc_target.proofs.MeetsOmf.{meets_omf}
-use Rattle.oc_neutral.proofs.Positions.{there_at}
-use Rattle.oc_shows.proofs.RowFieldLaws.{rows_are_fields, section_rows_are_fields, symbol_is_target}
-use Rattle.oc_shows.proofs.SeenAlike.{relocs_same, numbers_differ}
-use Rattle.oc_shows.proofs.SeenFamilies.{elf_table, coff_table, mach_table}
-use Rattle.oc_target.proofs.SeenLaws.{seen_is_object_law}
-use Rattle.oc_shows.proofs.SeenLines.{IsShown, IsTable, table_shows}
-use Rattle.oc_shows.proofs.BuiltContents.{zeros_at}
-use Rattle.oc_target.proofs.SeenReady.{omf_ready}
+use Rattle.oc_shows.specs.{Shows.{AreNumbered, Shows}, SymbolLines.{omf_lines}}
+use Rattle.oc_target.specs.Fitted.{IsFitted}
+use Rattle.oc_shows.proofs.{AgainLaws.{inside_of, read_again_shows}, RowFieldLaws.{rows_are_fields, section_rows_are_fields, symbol_is_target}}
+use Rattle.oc_shows.proofs.{SeenAlike.{relocs_same, numbers_differ}, SeenFamilies.{elf_table, coff_table, mach_table}}
+use Rattle.oc_shows.proofs.{SeenLines.{IsShown, IsTable, table_shows}, BuiltContents.{zeros_at}}
+use Rattle.oc_neutral.proofs.{Mapped.{from_mapped}, Formats.{of_omf}, Positions.{there_at}}
+use Rattle.oc_target.proofs.{MeetsOmf.{meets_omf}, SeenLaws.{seen_is_object_law}, SeenReady.{omf_ready}}
 use Rattle.oc_shelf.proofs.WritingLaws.MemberLemmas.{map-alike, map-map, member_map, of_map, of_enumerated}
 use Rattle.oc_made_files.specs.MadeFiles.{shown_in, seen_in, IsMadeField, IsMadeFile, MadeFileShows}
 

@@ -1,19 +1,12 @@
 -- The symbols that are seen of an object, by the lines of its file.
 use Rattle.std.proofs.Common.{◌≡◌, ℕ, suc, ◌+◌, List, [], ◌∷◌, map, Option, Some, None, refl, sym, ◌∙◌, ap, arith}
-use Rattle.std.specs.Prelude.{slice_get, nat_eq, filter_map}
-use Rattle.std.specs.List.{cons_option}
-use Rattle.std.specs.Option.{option_map, option_map_or, option_and_then}
+use Rattle.std.specs.{Prelude.{slice_get, nat_eq, filter_map}, List.{cons_option}, Option.{option_map, option_map_or, option_and_then}}
 use Rattle.std.proofs.lemmas.Bool.{eq-eqb, ne_eqb}
-use Rattle.oc_neutral.specs.declared.symbol.Symbol.{Symbol}
-use Rattle.oc_neutral.specs.Objects.{Object}
-use Rattle.oc_shows.specs.Manners.{Manner}
-use Rattle.oc_shows.specs.Seen.{shown_from, new_position, seen_symbol, seen_symbols}
-use Rattle.oc_shows.specs.SymbolLines.{Line}
-use Rattle.oc_shows.proofs.SeenLines.{IsShown}
-use Rattle.oc_shows.proofs.SeenAlike.{filter_all}
+use Rattle.oc_neutral.specs.{declared.symbol.Symbol.{Symbol}, Objects.{Object}}
+use Rattle.oc_shows.specs.{Manners.{Manner}, Seen.{shown_from, new_position, seen_symbol, seen_symbols}, SymbolLines.{Line}}
+use Rattle.oc_shows.proofs.{SeenLines.{IsShown}, SeenAlike.{filter_all}}
 use Rattle.oc_shelf.specs.Writing.Parts.{Laid, laid, behind}
-use Rattle.oc_shelf.proofs.WritingLaws.GatheredLemmas.{laid_ones}
-use Rattle.oc_shelf.proofs.WritingLaws.MemberLemmas.{position_first, member_filter_map}
+use Rattle.oc_shelf.proofs.{WritingLaws.GatheredLemmas.{laid_ones}, WritingLaws.MemberLemmas.{position_first, member_filter_map}}
 use Rattle.oc_shelf.proofs.WritingLaws.PartLemmas.{laid_part, laid_there}
 use Rattle.oc_made_files.specs.MadeFiles.{shown_in}
 

@@ -1,21 +1,13 @@
 -- What reading gives of a file that was made for an object (our profile): its sections, symbols and fields, whatever the container.
-use Rattle.std.specs.Prelude.{◌≡◌, ℕ, ◌≤◌, List, length, map, slice_get, Some, None}
-use Rattle.std.specs.List.{enumerate_from}
+use Rattle.std.specs.{Prelude.{◌≡◌, ℕ, ◌≤◌, List, length, map, slice_get, Some, None}, List.{enumerate_from}}
 use Rattle.oc_base.specs.Formats.{word_for}
-use Rattle.oc_linking.specs.Keeping.{all}
+use Rattle.oc_linking.specs.{Keeping.{all}, Rules.{Field}}
 use Rattle.oc_linking.specs.Parts as parts
-use Rattle.oc_linking.specs.Rules.{Field}
-use Rattle.oc_neutral.specs.declared.section.Section.{Section}
-use Rattle.oc_neutral.specs.declared.reloc.Reloc.{Reloc}
-use Rattle.oc_neutral.specs.Objects.{Object, reloc_at}
-use Rattle.oc_shows.specs.Again.{HasContents}
-use Rattle.oc_shows.specs.Built.{IsField}
-use Rattle.oc_neutral.specs.Dialects.{Dialect}
+use Rattle.oc_neutral.specs.{declared.section.Section.{Section}, declared.reloc.Reloc.{Reloc}, Objects.{Object, reloc_at}, Dialects.{Dialect}}
 use Rattle.oc_neutral.specs.Faces.{shown_section, shown_symbols, frame_of}
-use Rattle.oc_target.specs.Fitted.{IsFitted}
-use Rattle.oc_shows.specs.Manners.{Manner, own_manner}
-use Rattle.oc_shows.specs.Seen.{shown_from, seen, seen_section, seen_reloc, seen_with}
+use Rattle.oc_shows.specs.{Again.{HasContents}, Built.{IsField}, Manners.{Manner, own_manner}, Seen.{shown_from, seen, seen_section, seen_reloc, seen_with}}
 use Rattle.oc_shows.specs.Shows.{Shows}
+use Rattle.oc_target.specs.Fitted.{IsFitted}
 
 -- the symbols of an object that are shown in a manner, by position, with their numbers
 abbrev pub shown_in : Manner → Object → List (ℕ × ℕ)

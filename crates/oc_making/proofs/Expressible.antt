@@ -1,47 +1,25 @@
 -- What is made can be written in every format but ELF for many sections.
 use Rattle.std.proofs.Common.{◌≡◌, ◌≢◌, ℕ, zero, suc, ◌+◌, ◌*◌, ◌%◌, ◌≤◌, Bool, true, false, cond, ◌||◌, [], ◌∷◌, ◌++◌, length, map, min, Option, Some, None, refl, ◌∙◌, ap, arith}
-use Rattle.std.specs.Fmt.{decimal}
-use Rattle.std.specs.List.{AllByRecursion, range_with_len}
-use Rattle.std.specs.Option.{option_map_or}
-use Rattle.std.proofs.lemmas.Bool.{true≢false, le-ltb}
-use Rattle.oc_base.specs.declared.format.Word.{Word}
-use Rattle.oc_base.specs.declared.format.Word.TheVariants.{W32, W64}
-use Rattle.oc_base.specs.declared.format.Format.{Format}
+use Rattle.std.specs.{Fmt.{decimal}, List.{AllByRecursion, range_with_len}, Option.{option_map_or}, Prelude.{slice_get, codes, sum_by, count_by}}
+use Rattle.std.proofs.lemmas.{Bool.{true≢false, le-ltb}, List.Sums.{count_by-le-length, sum_by-append, sum_by-cons}}
+use Rattle.oc_base.specs.{declared.format.Word.{Word}, declared.format.Word.TheVariants.{W32, W64}, declared.format.Format.{Format}}
 use Rattle.oc_base.specs.declared.format.Format.TheVariants.{Elf32, Elf64, Coff32, Coff64, Mac32, Mac64, Omf, BigElf32, BigElf64, BigCoff32, BigCoff64}
-use Rattle.oc_base.specs.Formats.{word_for}
-use Rattle.oc_base.specs.declared.fault.Fault.{Fault}
-use Rattle.oc_linking.specs.FirstFault.{first_broken}
-use Rattle.oc_linking.specs.Numbers.{first_upto}
-use Rattle.oc_algebra.specs.Fields.{to_field_of, field_for}
-use Rattle.oc_algebra.specs.Residues.{reduced_number, residue_of}
+use Rattle.oc_base.specs.{Formats.{word_for}, declared.fault.Fault.{Fault}}
+use Rattle.oc_linking.specs.{FirstFault.{first_broken}, Numbers.{first_upto}}
+use Rattle.oc_algebra.specs.{Fields.{to_field_of, field_for}, Residues.{reduced_number, residue_of}}
 use Rattle.oc_chains.specs.declared.field.Field.{Field}
-use Rattle.oc_neutral.specs.declared.reloc.Reloc.{Reloc}
-use Rattle.oc_neutral.specs.declared.reloc.Target.TheVariants as target
-use Rattle.oc_neutral.specs.declared.symbol.Symbol.{Symbol}
-use Rattle.oc_neutral.specs.Families.{container_of}
-use Rattle.oc_neutral.specs.Family.{IsElf}
-use Rattle.oc_target.specs.Fitted.{first_unfit}
-use Rattle.oc_neutral.specs.HomeNames.{output_names, wanted_names}
-use Rattle.oc_neutral.specs.KindRules.{has_nul}
-use Rattle.oc_neutral.specs.Objects.{Object}
-use Rattle.oc_neutral.specs.Shifts.{field_shift}
-use Rattle.oc_neutral.specs.Spelling.{written_row}
+use Rattle.oc_neutral.specs.{declared.reloc.Reloc.{Reloc}, declared.symbol.Symbol.{Symbol}, Families.{container_of}, Family.{IsElf}}
+use Rattle.oc_neutral.specs.{HomeNames.{output_names, wanted_names}, KindRules.{has_nul}, Objects.{Object}, Shifts.{field_shift}, Spelling.{written_row}}
 use Rattle.oc_neutral.specs.TargetRelocations.{is_local_number, is_target, is_wrong_target, reloc_conditions, placed_relocs, standing_conditions, placed_relocs_in, PlacedReloc}
 use Rattle.oc_neutral.specs.TargetSections.{conditions_at, each_of, section_conditions, section_count, section_stages}
-use Rattle.oc_neutral.specs.TargetSymbols.{names_length, symbol_conditions, symbol_count, symbol_stages}
+use Rattle.oc_neutral.specs.{TargetSymbols.{names_length, symbol_conditions, symbol_count, symbol_stages}, Mach.Family.{mach_symbol_count, mach_writes}}
+use Rattle.oc_neutral.specs.{Mach.SectionSymbols.{needed_sections, needs_section_symbol}, Bindings.{is_external, is_written_by}, Omf.Family.{is_too_long}}
+use Rattle.oc_neutral.specs.declared.reloc.Target.TheVariants as target
+use Rattle.oc_target.specs.Fitted.{first_unfit}
 use Rattle.oc_made.specs.Functions.{call, calls_of, elf_format, function_symbol, made_object, outside_symbol, symbols_of, text_section}
-use Rattle.oc_made.proofs.CallLemmas.{all_calls}
-use Rattle.oc_made.proofs.Lists.{all_joined, none_broken, none_upto, sum_range}
-use Rattle.oc_made.proofs.NameLemmas.{number_short, number_uncut}
-use Rattle.oc_made.proofs.SymbolLemmas.{all_symbols, at_symbol, length-symbols_of, names_short}
-use Rattle.oc_neutral.specs.Mach.Family.{mach_symbol_count, mach_writes}
-use Rattle.oc_neutral.specs.Mach.SectionSymbols.{needed_sections, needs_section_symbol}
-use Rattle.oc_neutral.specs.Bindings.{is_external, is_written_by}
-use Rattle.oc_made.proofs.ReadyElf.{made_is_fitted, five_none, both_met}
+use Rattle.oc_made.proofs.{CallLemmas.{all_calls}, Lists.{all_joined, none_broken, none_upto, sum_range}, NameLemmas.{number_short, number_uncut}}
+use Rattle.oc_made.proofs.{SymbolLemmas.{all_symbols, at_symbol, length-symbols_of, names_short}, ReadyElf.{made_is_fitted, five_none, both_met}}
 use Rattle.oc_making.specs.Making.{MadeIsExpressible}
-use Rattle.std.specs.Prelude.{slice_get, codes, sum_by, count_by}
-use Rattle.std.proofs.lemmas.List.Sums.{count_by-le-length, sum_by-append, sum_by-cons}
-use Rattle.oc_neutral.specs.Omf.Family.{is_too_long}
 use Rattle.oc_neutral.proofs.LeftObject.{all_map}
 
 -- a condition that is not broken

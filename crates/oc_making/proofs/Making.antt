@@ -1,52 +1,30 @@
 -- What is made is refused by no conversion.
 use Rattle.std.proofs.Common.{◌≡◌, ℕ, suc, zero, ◌≤◌, true, false, cond, List, [], ◌∷◌, length, Some, None, Ok, refl, sym, ◌∙◌, ap, subst, arith}
-use Rattle.std.proofs.lemmas.Bool.{true≢false}
-use Rattle.std.proofs.lemmas.Option.{none-some, same_Some}
-use Rattle.oc_base.specs.declared.code.Code.TheVariants.{WordSize}
-use Rattle.oc_base.specs.declared.format.Word.{Word}
-use Rattle.oc_base.specs.declared.format.Word.TheVariants.{W32, W64}
+use Rattle.std.proofs.lemmas.{Bool.{true≢false}, Option.{none-some, same_Some}, List.Sums.{sum_by-cons}}
+use Rattle.oc_base.specs.{declared.code.Code.TheVariants.{WordSize}, declared.format.Word.{Word}, declared.format.Word.TheVariants.{W32, W64}}
 use Rattle.oc_base.specs.declared.format.Format.{Format}
 use Rattle.oc_base.specs.declared.format.Format.TheVariants.{Elf32, Elf64, Coff32, Coff64, Mac32, Mac64, Omf, BigElf32, BigElf64, BigCoff32, BigCoff64}
 use Rattle.oc_base.specs.Formats.{word_for}
-use Rattle.oc_linking.specs.declared.terms.Keep.{Keep}
-use Rattle.oc_linking.specs.Keeping.{keeps}
-use Rattle.oc_linking.specs.Numbers.{or_else}
-use Rattle.oc_neutral.specs.declared.section.Section.{Section}
-use Rattle.oc_neutral.specs.Dialects.{Dialect}
-use Rattle.oc_shows.specs.Computed.{object_in}
-use Rattle.oc_neutral.specs.Families.{is_many, same_word}
+use Rattle.oc_linking.specs.{declared.terms.Keep.{Keep}, Keeping.{keeps}, Numbers.{or_else}}
+use Rattle.oc_neutral.specs.{declared.section.Section.{Section}, Dialects.{Dialect}, Families.{is_many, same_word}, Objects.{Object}}
+use Rattle.oc_neutral.specs.{declared.reloc.Reloc.{Reloc}, Building.{stored_size, stored_sum}}
+use Rattle.oc_shows.specs.{Computed.{object_in}, Seen.{seen}}
 use Rattle.oc_target.specs.Fitted.{IsFitted}
-use Rattle.oc_neutral.specs.Objects.{Object}
-use Rattle.oc_shows.specs.Seen.{seen}
-use Rattle.oc_names.specs.Wishes.{no_wishes}
-use Rattle.oc_names.specs.Edited.{edited}
-use Rattle.oc_names.specs.Kept.{keep_for}
+use Rattle.oc_names.specs.{Wishes.{no_wishes}, Edited.{edited}, Kept.{keep_for}}
 use Rattle.oc_convert.specs.Refusals.{first_refusal, object_refusal, edited_refusal, kept_of_file}
 use Rattle.oc_convert.specs.Dispatched.{dispatch_refusal, refusal_from, header_refusal}
 use Rattle.oc_dispatch.specs.Built.{built, reader_of}
 use Rattle.oc_canonical.proofs.Known.{elf_known}
-use Rattle.oc_elf.specs.declared.class.ElfClass.{ElfClass}
-use Rattle.oc_elf.specs.declared.class.ElfClass.TheVariants.{Class32, Class64}
-use Rattle.oc_elf.specs.Classes.{format_of}
-use Rattle.oc_elf.specs.Elf.{elf_dialect}
+use Rattle.oc_elf.specs.{declared.class.ElfClass.{ElfClass}, declared.class.ElfClass.TheVariants.{Class32, Class64}, Classes.{format_of}, Elf.{elf_dialect}}
 use Rattle.oc_elf_file.specs.Canonical.{elf_file}
-use Rattle.oc_made.specs.Files.{class_for, made_bytes}
-use Rattle.oc_made.specs.Functions.{calls_of, elf_format, made_object, symbols_of, text_section}
-use Rattle.oc_made.proofs.ReadyElf.{made_is_fitted}
+use Rattle.oc_made.specs.{Files.{class_for, made_bytes}, Functions.{calls_of, elf_format, made_object, symbols_of, text_section}}
+use Rattle.oc_made.proofs.{ReadyElf.{made_is_fitted}, CallLemmas.{length-calls_of}, SymbolLemmas.{length-symbols_of, names_short}}
 use Rattle.oc_names.proofs.Unedited.{nothing_edited}
 use Rattle.std.specs.Prelude.{slice_get, sum_by}
-use Rattle.std.proofs.lemmas.List.Sums.{sum_by-cons}
 use Rattle.oc_chains.specs.declared.field.Field.{Field}
-use Rattle.oc_neutral.specs.declared.reloc.Reloc.{Reloc}
-use Rattle.oc_neutral.specs.Building.{stored_size, stored_sum}
-use Rattle.oc_elf_file.proofs.CodedLaws.{for_elf}
-use Rattle.oc_made.proofs.CallLemmas.{length-calls_of}
-use Rattle.oc_made.proofs.SymbolLemmas.{length-symbols_of, names_short}
-use Rattle.oc_elf_file.proofs.FileSize.{file_size}
+use Rattle.oc_elf_file.proofs.{CodedLaws.{for_elf}, FileSize.{file_size}}
 use Rattle.oc_making.specs.Making.{MadeIsAccepted, MadeIsShort}
-use Rattle.oc_making.proofs.Expressible.{made_is_expressible}
-use Rattle.oc_making.proofs.ElfOwn.{elf_good, elf_object}
-use Rattle.oc_making.proofs.SeenMade.{seen_made}
+use Rattle.oc_making.proofs.{Expressible.{made_is_expressible}, ElfOwn.{elf_good, elf_object}, SeenMade.{seen_made}}
 
 module _ (to : Format) (count : ℕ) (many : is_many to ≡ false) (few : count ≤ 100000) (class : ElfClass) (same : made_bytes count (word_for to) ≡ elf_file class (made_object count (word_for to))) (own : elf_format (word_for to) ≡ format_of class)
     (reader : reader_of (format_of class) ≡ elf_dialect class) (words : same_word (word_for (format_of class)) (word_for to) ≡ true) (code : keeps (kept_of_file no_wishes (elf_dialect class) to) (text_section count).kind ≡ true) where

@@ -1,65 +1,35 @@
 -- The fields of an edited object have the looks of the edited file.
 use Rattle.std.proofs.Common.{◌≡◌, ℕ, zero, suc, ◌<◌, Bool, true, false, ◌||◌, cond, eqb, List, [], ◌∷◌, length, map, get_or, Option, Some, None, inl, inr, refl, sym, ◌∙◌, ap, subst, arith}
-use Rattle.std.specs.Prelude.{slice_get}
-use Rattle.std.specs.Option.{option_map, option_map_or, option_and_then}
-use Rattle.std.proofs.lemmas.Bool.{cases_eq, eq-eqb, ne_eqb, or_parts, not-false}
-use Rattle.std.proofs.lemmas.List.{length-map}
+use Rattle.std.specs.{Prelude.{slice_get}, Option.{option_map, option_map_or, option_and_then}}
+use Rattle.std.proofs.lemmas.{Bool.{cases_eq, eq-eqb, ne_eqb, or_parts, not-false}, List.{length-map}}
 use Rattle.std.proofs.lemmas.Option.{none-some, same_Some, slice_get-map, slice_get_within}
-use Rattle.oc_base.specs.declared.format.Format.{Format}
-use Rattle.oc_base.specs.declared.format.Word.{Word}
-use Rattle.oc_base.specs.Formats.{word_for}
-use Rattle.oc_linking.specs.declared.terms.Keep.{Keep}
-use Rattle.oc_linking.specs.declared.terms.Base.{Base}
+use Rattle.oc_base.specs.{declared.format.Format.{Format}, declared.format.Word.{Word}, Formats.{word_for}}
+use Rattle.oc_linking.specs.{declared.terms.Keep.{Keep}, declared.terms.Base.{Base}, declared.terms.Less.{Less}, Keeping.{carried_of}, Linking.{flags_in}}
+use Rattle.oc_linking.specs.{Placing.{zeros}, Values.{Valuation, numbered, worthless}, Rules.{Named, Symbolic, Sectional}}
 use Rattle.oc_linking.specs.declared.terms.Base.TheVariants as base
-use Rattle.oc_linking.specs.declared.terms.Less.{Less}
 use Rattle.oc_linking.specs.declared.terms.Less.TheVariants as less
-use Rattle.oc_linking.specs.Keeping.{carried_of}
-use Rattle.oc_linking.specs.Linking.{flags_in}
 use Rattle.oc_linking.specs.Parts as parts
-use Rattle.oc_linking.specs.Placing.{zeros}
-use Rattle.oc_linking.specs.Values.{Valuation, numbered, worthless}
-use Rattle.oc_linking.specs.Rules.{Named, Symbolic, Sectional}
-use Rattle.oc_linking.proofs.Dropping.{numbered-raised}
-use Rattle.oc_linking.proofs.Raising.{raised, raised_binding}
-use Rattle.oc_neutral.specs.declared.symbol.Symbol.{Symbol}
-use Rattle.oc_neutral.specs.declared.reloc.Target.{Target}
-use Rattle.oc_neutral.specs.declared.reloc.Target.TheVariants as target
-use Rattle.oc_neutral.specs.declared.reloc.Reloc.{Reloc}
-use Rattle.oc_neutral.specs.Objects.{Object, reloc_at}
-use Rattle.oc_neutral.specs.Invariants.{IsThere, IsLessThere, IsObject}
-use Rattle.oc_shows.specs.Computed.{zeros_outside}
-use Rattle.oc_neutral.specs.Faces.{number_of, named_of, shown_symbols}
+use Rattle.oc_linking.proofs.{Dropping.{numbered-raised}, Raising.{raised, raised_binding}}
+use Rattle.oc_neutral.specs.{declared.symbol.Symbol.{Symbol}, declared.reloc.Target.{Target}, declared.reloc.Reloc.{Reloc}, Objects.{Object, reloc_at}}
+use Rattle.oc_neutral.specs.{Invariants.{IsThere, IsLessThere, IsObject}, Faces.{number_of, named_of, shown_symbols}}
 use Rattle.oc_neutral.specs.Normal.{Place, local_place, place_among, cancels}
 use Rattle.oc_neutral.specs.Dialects.{Dialect, Look, less_in, look_of, kept_fields, target_by, is_folded, looks_in}
-use Rattle.oc_shows.specs.Shows.{looks_of, reloc_look, Shows}
-use Rattle.oc_shows.proofs.Looking.{cancels-named, folds, look_among, look-normal, normal_look}
-use Rattle.oc_neutral.proofs.NormalLemmas.{section_for, place_among-there}
-use Rattle.oc_neutral.proofs.Positions.{there_at}
-use Rattle.oc_names.specs.declared.edit.Edit.{Edit}
-use Rattle.oc_drop.specs.Steps.{then_by}
 use Rattle.oc_neutral.specs.Without.{symbols_stay, targets_dropped, takes_dropped, new_position, moved_less, moved_reloc, moved_target}
-use Rattle.oc_names.specs.Rebinding.{after_fallbacks, bindings_of, normalized}
-use Rattle.oc_names.specs.Kept.{keep_for}
-use Rattle.oc_names.specs.EditedShows.{named_after, is_difference_after, is_folded_after}
-use Rattle.oc_neutral.proofs.LeftObject.{left_is_object}
+use Rattle.oc_neutral.specs.declared.reloc.Target.TheVariants as target
+use Rattle.oc_shows.specs.{Computed.{zeros_outside}, Shows.{looks_of, reloc_look, Shows}}
+use Rattle.oc_shows.proofs.Looking.{cancels-named, folds, look_among, look-normal, normal_look}
+use Rattle.oc_neutral.proofs.{NormalLemmas.{section_for, place_among-there}, Positions.{there_at}, LeftObject.{left_is_object}}
 use Rattle.oc_neutral.proofs.LeftParts.{symbol_there, section_free, moved_symbol}
-use Rattle.oc_names.proofs.NormalObject.{normalized_is_object}
-use Rattle.oc_names.proofs.ReboundSymbols.{symbols_after}
-use Rattle.oc_drop.proofs.Filed.{AreSingle, numbers_of}
-use Rattle.oc_names.proofs.FiledSymbols.{numbers_settled}
-use Rattle.oc_names.proofs.FixedSymbols.{IsFound, found_front}
-use Rattle.oc_names.proofs.FiledNames.{number-front}
-use Rattle.oc_drop.proofs.DroppedSymbols.{carried_back}
-use Rattle.oc_drop.proofs.DroppedShows.{clear-field, free-clear, reloc-left}
-use Rattle.oc_names.proofs.NamedShows.{found_normal}
-use Rattle.oc_names.proofs.ReboundFields.{left_at}
-use Rattle.oc_names.proofs.ReboundShows.{reloc-rebound}
-use Rattle.oc_names.proofs.EditedParts.{flags-same, numbers-after, single-words, steps_from, symbols-edited, long_numbers}
-use Rattle.oc_names.proofs.EditedParts as edited
-use Rattle.oc_drop.specs.Dropping.{stays, left}
-use Rattle.oc_names.proofs.EditSteps.{after, renamed_object, HasSteps}
-use Rattle.oc_names.proofs.EditedWorth.{place-filed}
+use Rattle.oc_names.specs.{declared.edit.Edit.{Edit}, Rebinding.{after_fallbacks, bindings_of, normalized}, Kept.{keep_for}}
+use Rattle.oc_names.specs.EditedShows.{named_after, is_difference_after, is_folded_after}
 use Rattle.oc_names.specs.EditedLooks.{raised_less, raised_named, raised_look, look_after, looks_after, EditedKeepsLooks}
+use Rattle.oc_drop.specs.{Steps.{then_by}, Dropping.{stays, left}}
+use Rattle.oc_names.proofs.{NormalObject.{normalized_is_object}, ReboundSymbols.{symbols_after}, FiledSymbols.{numbers_settled}}
+use Rattle.oc_names.proofs.{FixedSymbols.{IsFound, found_front}, FiledNames.{number-front}, NamedShows.{found_normal}, ReboundFields.{left_at}}
+use Rattle.oc_names.proofs.{ReboundShows.{reloc-rebound}, EditedParts.{flags-same, numbers-after, single-words, steps_from, symbols-edited, long_numbers}}
+use Rattle.oc_names.proofs.{EditSteps.{after, renamed_object, HasSteps}, EditedWorth.{place-filed}}
+use Rattle.oc_drop.proofs.{Filed.{AreSingle, numbers_of}, DroppedSymbols.{carried_back}, DroppedShows.{clear-field, free-clear, reloc-left}}
+use Rattle.oc_names.proofs.EditedParts as edited
 
 -- ... sections by their positions among all
 

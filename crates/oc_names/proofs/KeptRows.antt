@@ -2,9 +2,7 @@
 use Rattle.std.proofs.Common.{◌≡◌, true, false, Bool, refl}
 use Rattle.oc_base.specs.declared.format.Format.TheVariants.{Elf64, Coff32, Coff64, Omf}
 use Rattle.oc_linking.specs.declared.terms.Keep.{Keep}
-use Rattle.oc_names.specs.declared.edit.Choice.TheVariants.{Strip, Keep as KeepAll}
-use Rattle.oc_names.specs.Wishes.{no_wishes, with_debug, with_exceptions}
-use Rattle.oc_names.specs.Kept.{keep_for}
+use Rattle.oc_names.specs.{declared.edit.Choice.TheVariants.{Strip, Keep as KeepAll}, Wishes.{no_wishes, with_debug, with_exceptions}, Kept.{keep_for}}
 
 -- what is kept of debug, exceptions and notes
 abbrev keep : Bool → Bool → Bool → Keep

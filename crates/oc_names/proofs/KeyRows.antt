@@ -1,16 +1,12 @@
 -- The keys of groups under new names, computed on small objects.
 use Rattle.std.proofs.Common.{◌≡◌, ℕ, List, [], ◌∷◌, refl}
 use Rattle.std.specs.Prelude.{codes, Some, Ok, Err}
-use Rattle.oc_base.specs.declared.code.Code.TheVariants.{NameClash}
-use Rattle.oc_base.specs.declared.format.Format.TheVariants.{Elf32, Coff32}
-use Rattle.oc_linking.specs.declared.terms.Kind.TheVariants.{Code}
-use Rattle.oc_linking.specs.declared.terms.Value.TheVariants.{Place}
+use Rattle.oc_base.specs.{declared.code.Code.TheVariants.{NameClash}, declared.format.Format.TheVariants.{Elf32, Coff32}}
+use Rattle.oc_linking.specs.{declared.terms.Kind.TheVariants.{Code}, declared.terms.Value.TheVariants.{Place}}
 use Rattle.oc_linking.specs.declared.terms.Binding.TheVariants.{Local, Global, Undefined}
-use Rattle.oc_neutral.specs.declared.symbol.Symbol.{Symbol}
-use Rattle.oc_neutral.specs.Objects.{Object}
-use Rattle.oc_names.specs.declared.edit.Edit.TheVariants.{Rename, Prefix, Alias, Underscore}
+use Rattle.oc_neutral.specs.{declared.symbol.Symbol.{Symbol}, Objects.{Object}}
+use Rattle.oc_names.specs.{declared.edit.Edit.TheVariants.{Rename, Prefix, Alias, Underscore}, Naming.{named_object}}
 use Rattle.oc_drop.specs.Steps.{edit_fault}
-use Rattle.oc_names.specs.Naming.{named_object}
 use Rattle.oc_drop.proofs.Examples.{symbol, section, object, group}
 
 -- two groups, each with one section

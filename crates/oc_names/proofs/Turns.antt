@@ -1,42 +1,23 @@
 -- Editing by one list of edits and then by another is editing by both at once.
 use Rattle.std.proofs.Common.{◌≡◌, ℕ, true, List, ◌++◌, append-nil, map, Option, Some, None, Result, Ok, refl, sym, ◌∙◌, ap, subst, arith}
-use Rattle.std.specs.Prelude.{slice_get}
-use Rattle.std.specs.List.{AllByRecursion, fold}
-use Rattle.std.specs.Option.{option_map}
+use Rattle.std.specs.{Prelude.{slice_get}, List.{AllByRecursion, fold}, Option.{option_map}}
 use Rattle.std.proofs.lemmas.Option.{get_or_from_slice_get, slice_get-map}
-use Rattle.oc_base.specs.declared.fault.Fault.{Fault}
-use Rattle.oc_base.specs.declared.format.Format.{Format}
-use Rattle.oc_base.specs.declared.format.Word.{Word}
-use Rattle.oc_base.specs.Formats.{word_for}
-use Rattle.oc_linking.specs.declared.terms.Keep.{Keep}
-use Rattle.oc_linking.specs.Keeping.{keeps}
-use Rattle.oc_linking.specs.Numbers.{or_else}
+use Rattle.oc_base.specs.{declared.fault.Fault.{Fault}, declared.format.Format.{Format}, declared.format.Word.{Word}, Formats.{word_for}}
+use Rattle.oc_linking.specs.{declared.terms.Keep.{Keep}, Keeping.{keeps}, Numbers.{or_else}}
 use Rattle.oc_chains.specs.Lists.{list_of}
-use Rattle.oc_neutral.specs.declared.group.Group.{Group}
-use Rattle.oc_neutral.specs.declared.section.Section.{Section}
-use Rattle.oc_neutral.specs.declared.symbol.Symbol.{Symbol}
-use Rattle.oc_neutral.specs.Objects.{Object}
+use Rattle.oc_neutral.specs.{declared.group.Group.{Group}, declared.section.Section.{Section}, declared.symbol.Symbol.{Symbol}, Objects.{Object}}
 use Rattle.oc_neutral.specs.Invariants.{IsObject}
-use Rattle.oc_names.specs.declared.edit.Edit.{Edit}
-use Rattle.oc_names.specs.Kept.{keep_for}
-use Rattle.oc_drop.specs.Steps.{first_field, first_in, then_by, unless}
-use Rattle.oc_drop.specs.Dropping.{dropping_fault, dropped, left, stays}
+use Rattle.oc_names.specs.{declared.edit.Edit.{Edit}, Kept.{keep_for}}
 use Rattle.oc_names.specs.Rebinding.{after_fallbacks, after_relocs, after_words, bindings_of, fallback_fault, normalized, rebound_object, settled, unfit_fault, with_constant}
 use Rattle.oc_names.specs.Naming.{all_named, count_fault, count_named, groups_named, keys_fault, named, named_object, names_fault, with_names}
-use Rattle.oc_names.specs.EditedFile.{after_all}
-use Rattle.oc_names.specs.Turns.{CanFollow, EditsInTurn}
-use Rattle.oc_drop.proofs.DroppedSections.{map_twice}
-use Rattle.oc_names.proofs.EditSteps.{after, HasSteps, steps_of}
-use Rattle.oc_drop.proofs.StepLaws.{unless_ok}
+use Rattle.oc_names.specs.{EditedFile.{after_all}, Turns.{CanFollow, EditsInTurn}}
+use Rattle.oc_drop.specs.{Steps.{first_field, first_in, then_by, unless}, Dropping.{dropping_fault, dropped, left, stays}}
+use Rattle.oc_drop.proofs.{DroppedSections.{map_twice}, StepLaws.{unless_ok}, NothingDropped.{dropped_same}}
+use Rattle.oc_names.proofs.{EditSteps.{after, HasSteps, steps_of}, NormalFields.{IsFrame, frame_fold, numbered_from}}
+use Rattle.oc_names.proofs.{TurnsSymbols.{all_named_twice, count_twice, no_further}, TurnsKeys.{groups_twice}}
+use Rattle.oc_names.proofs.{TurnsWords.{MayPass, both, words_are, words_fault, words_joined, words_pass}, TurnsFallbacks.{binding_named, fallbacks_again}}
+use Rattle.oc_names.proofs.{TurnsObjects.{relocs_again}, TurnsOrigins.{AreTurned, d_is, free, long, turned}}
 use Rattle.oc_neutral.proofs.LeftParts.{section_from}
-use Rattle.oc_names.proofs.NormalFields.{IsFrame, frame_fold, numbered_from}
-use Rattle.oc_drop.proofs.NothingDropped.{dropped_same}
-use Rattle.oc_names.proofs.TurnsSymbols.{all_named_twice, count_twice, no_further}
-use Rattle.oc_names.proofs.TurnsKeys.{groups_twice}
-use Rattle.oc_names.proofs.TurnsWords.{MayPass, both, words_are, words_fault, words_joined, words_pass}
-use Rattle.oc_names.proofs.TurnsFallbacks.{binding_named, fallbacks_again}
-use Rattle.oc_names.proofs.TurnsObjects.{relocs_again}
-use Rattle.oc_names.proofs.TurnsOrigins.{AreTurned, d_is, free, long, turned}
 
 -- ... steps that begin with the same fault, or with none
 

@@ -1,33 +1,19 @@
 -- Fallbacks that are settled before the second words and after them are settled as after all words at once.
 use Rattle.std.proofs.Common.{◌≡◌, ℕ, Bool, true, false, cond, List, [], ◌∷◌, map, Option, Some, None, inl, inr, refl, sym, ◌∙◌, ap, subst}
-use Rattle.std.specs.Prelude.{slice_get}
-use Rattle.std.specs.List.{AllByRecursion}
-use Rattle.std.specs.Option.{option_map, option_map_or, option_and_then}
+use Rattle.std.specs.{Prelude.{slice_get}, List.{AllByRecursion}, Option.{option_map, option_map_or, option_and_then}}
 use Rattle.std.proofs.lemmas.Option.{none-some, slice_get-map}
-use Rattle.oc_base.specs.declared.code.Code.TheVariants.{PinnedWeak, TargetKind}
-use Rattle.oc_base.specs.declared.format.Format.{Format}
+use Rattle.oc_base.specs.{declared.code.Code.TheVariants.{PinnedWeak, TargetKind}, declared.format.Format.{Format}}
 use Rattle.oc_linking.specs.declared.terms.Value.TheVariants as value
 use Rattle.oc_linking.specs.declared.terms.Fallback.TheVariants as fallback
-use Rattle.oc_linking.specs.declared.terms.Binding.{Binding}
-use Rattle.oc_linking.specs.declared.terms.Binding.TheVariants.{Local, Global, Undefined, Common, Weak}
-use Rattle.oc_linking.specs.Parts.{is_local}
-use Rattle.oc_neutral.specs.declared.symbol.Symbol.{Symbol}
-use Rattle.oc_neutral.specs.Normal.{Place, local_place}
+use Rattle.oc_linking.specs.{declared.terms.Binding.{Binding}, declared.terms.Binding.TheVariants.{Local, Global, Undefined, Common, Weak}, Parts.{is_local}}
+use Rattle.oc_neutral.specs.{declared.symbol.Symbol.{Symbol}, Normal.{Place, local_place}, Without.{with_binding}}
 use Rattle.oc_names.specs.declared.edit.Edit.{Edit}
-use Rattle.oc_drop.specs.Steps.{first_in, symbol_fault, unless}
-use Rattle.oc_neutral.specs.Without.{with_binding}
 use Rattle.oc_names.specs.Rebinding.{after_fallbacks, bindings_of, fallback_binding, fallback_code, fallback_fault, placed_fallback, settled, settled_binding}
-use Rattle.oc_names.specs.NewNames.{final_name}
-use Rattle.oc_names.specs.Naming.{named, with_name}
-use Rattle.oc_names.specs.EditedFile.{after_all}
-use Rattle.oc_neutral.proofs.Positions.{each_weaker}
-use Rattle.oc_neutral.proofs.LeftObject.{all_both, all_map}
-use Rattle.oc_drop.proofs.DroppedSections.{map_twice}
-use Rattle.oc_names.proofs.EditSteps.{after}
-use Rattle.oc_drop.proofs.FirstLaws.{map_none, none_in}
-use Rattle.oc_names.proofs.TurnsNames.{ArePlain}
-use Rattle.oc_names.proofs.TurnsSymbols.{first_alike, map_alike}
-use Rattle.oc_names.proofs.TurnsKeys.{AreLater, IsLater}
+use Rattle.oc_names.specs.{NewNames.{final_name}, Naming.{named, with_name}, EditedFile.{after_all}}
+use Rattle.oc_drop.specs.Steps.{first_in, symbol_fault, unless}
+use Rattle.oc_neutral.proofs.{Positions.{each_weaker}, LeftObject.{all_both, all_map}}
+use Rattle.oc_drop.proofs.{DroppedSections.{map_twice}, FirstLaws.{map_none, none_in}}
+use Rattle.oc_names.proofs.{EditSteps.{after}, TurnsNames.{ArePlain}, TurnsSymbols.{first_alike, map_alike}, TurnsKeys.{AreLater, IsLater}}
 use Rattle.oc_names.proofs.TurnsBindings.{after_bound, bound, bound_local, bound_off, bound_weak, local_settled, own_bound, own_free, own_settled, place_settled, stands_for, stands_or_not}
 use Rattle.oc_names.proofs.TurnsWords.{MayPass, both}
 

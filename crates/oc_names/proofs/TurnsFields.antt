@@ -1,29 +1,18 @@
 -- Relocations that are brought to normal form twice: under some symbols, and then under others that keep the places of Locals.
 use Rattle.std.proofs.Common.{◌≡◌, ℕ, zero, suc, ◌+◌, ◌/◌, ◌%◌, ◌<◌, ◌≤◌, Bool, true, false, cond, List, [], ◌∷◌, set, Option, Some, None, Result, Ok, Err, refl, sym, ◌∙◌, ap, arith}
-use Rattle.std.specs.Prelude.{ℤ}
-use Rattle.std.specs.List.{AllByRecursion, filter_map, cons_option}
+use Rattle.std.specs.{Prelude.{ℤ}, List.{AllByRecursion, filter_map, cons_option}}
 use Rattle.std.proofs.lemmas.List.{set_comm}
-use Rattle.oc_base.specs.declared.code.Code.TheVariants.{FoldTooWide}
-use Rattle.oc_base.specs.declared.format.Word.{Word}
-use Rattle.oc_base.specs.Formats.{word_for}
-use Rattle.oc_linking.specs.Fits.{bytes_of}
-use Rattle.oc_linking.specs.Numbers.{or_else}
-use Rattle.oc_algebra.specs.declared.fields.AddendTooWide.{AddendTooWide}
-use Rattle.oc_algebra.specs.Residues.{reduced_number}
+use Rattle.oc_base.specs.{declared.code.Code.TheVariants.{FoldTooWide}, declared.format.Word.{Word}, Formats.{word_for}}
+use Rattle.oc_linking.specs.{Fits.{bytes_of}, Numbers.{or_else}}
+use Rattle.oc_algebra.specs.{declared.fields.AddendTooWide.{AddendTooWide}, Residues.{reduced_number}}
 use Rattle.oc_algebra.proofs.Laws.{reduced_reduced}
-use Rattle.oc_chains.specs.declared.field.Field.{Field}
-use Rattle.oc_chains.specs.Fields.{FollowFrom, end_of}
-use Rattle.oc_neutral.specs.declared.section.Section.{Section}
-use Rattle.oc_neutral.specs.declared.symbol.Symbol.{Symbol}
-use Rattle.oc_neutral.specs.declared.reloc.Target.{Target}
-use Rattle.oc_neutral.specs.declared.reloc.Target.TheVariants as target
-use Rattle.oc_neutral.specs.declared.reloc.Reloc.{Reloc}
-use Rattle.oc_neutral.specs.declared.normal.Normal.{Normal}
-use Rattle.oc_neutral.specs.declared.normal.Normal.TheVariants as normal
-use Rattle.oc_neutral.specs.Objects.{Object}
-use Rattle.oc_neutral.specs.Normal.{Place, at_section, by_section, cancels, folded, normal_of, place_among, takes_section, by_place}
-use Rattle.oc_neutral.specs.Building.{written}
+use Rattle.oc_chains.specs.{declared.field.Field.{Field}, Fields.{FollowFrom, end_of}}
+use Rattle.oc_neutral.specs.{declared.section.Section.{Section}, declared.symbol.Symbol.{Symbol}, declared.reloc.Target.{Target}, declared.reloc.Reloc.{Reloc}}
+use Rattle.oc_neutral.specs.{declared.normal.Normal.{Normal}, Objects.{Object}}
+use Rattle.oc_neutral.specs.{Normal.{Place, at_section, by_section, cancels, folded, normal_of, place_among, takes_section, by_place}, Building.{written}}
 use Rattle.oc_neutral.specs.Invariants.{IsNormal}
+use Rattle.oc_neutral.specs.declared.reloc.Target.TheVariants as target
+use Rattle.oc_neutral.specs.declared.normal.Normal.TheVariants as normal
 use Rattle.oc_drop.specs.Steps.{edit_fault, first_in}
 use Rattle.oc_names.specs.Rebinding.{fault_of, field_of, kept_field, left_in, section_of, stored_fault, stored_number, unfit_fault, with_constant, with_stored}
 use Rattle.oc_neutral.proofs.LeftParts.{section_free}

@@ -1,19 +1,13 @@
 -- Keys of groups that are edited twice: by the symbols before the second edits make some Local, and then by those after.
 use Rattle.std.proofs.Common.{◌≡◌, ◌⊎◌, ℕ, Bool, true, false, not, ◌&&◌, ◌||◌, cond, bytes_eq, List, [], ◌∷◌, ◌++◌, map, Option, Some, None, inl, inr, refl, sym, ◌∙◌, ap, subst}
 use Rattle.std.specs.List.{AllByRecursion}
-use Rattle.std.proofs.lemmas.Bool.{true≢false}
-use Rattle.std.proofs.lemmas.Slice.Eq.{bytes_eq-Decides}
+use Rattle.std.proofs.lemmas.{Bool.{true≢false}, Slice.Eq.{bytes_eq-Decides}}
 use Rattle.oc_base.specs.declared.format.Format.{Format}
 use Rattle.oc_linking.specs.Parts.{is_local}
-use Rattle.oc_neutral.specs.declared.group.Group.{Group}
-use Rattle.oc_neutral.specs.declared.symbol.Symbol.{Symbol}
-use Rattle.oc_neutral.specs.Building.{has_name}
+use Rattle.oc_neutral.specs.{declared.group.Group.{Group}, declared.symbol.Symbol.{Symbol}, Building.{has_name}}
 use Rattle.oc_neutral.proofs.Positions.{each_at}
-use Rattle.oc_names.specs.declared.edit.Edit.{Edit}
+use Rattle.oc_names.specs.{declared.edit.Edit.{Edit}, NewNames.{final_name, renamed_by}, Naming.{edited_group, groups_named, named}, Turns.{Leave, IsApart}}
 use Rattle.oc_drop.specs.Steps.{first_in}
-use Rattle.oc_names.specs.NewNames.{final_name, renamed_by}
-use Rattle.oc_names.specs.Naming.{edited_group, groups_named, named}
-use Rattle.oc_names.specs.Turns.{Leave, IsApart}
 use Rattle.oc_names.proofs.NamedParts.{named_symbol}
 use Rattle.oc_names.proofs.TurnsNames.{ArePlain, IsApartSymbol, final_same, kept_both, kept_first, named_kept, named_local, named_new, new_both, new_first}
 

@@ -1,19 +1,15 @@
 -- Names and keys that are edited twice: the second edits leave what the first renamed.
 use Rattle.std.proofs.Common.{◌≡◌, ℕ, Bool, true, false, ◌||◌, cond, List, [], ◌∷◌, ◌++◌, append-nil, length, drop, Option, Some, None, refl, sym, ◌∙◌, ap}
-use Rattle.std.specs.Prelude.{take, ◌-◌}
-use Rattle.std.specs.List.{AllByRecursion, list_any}
-use Rattle.std.specs.Option.{unwrap_or}
+use Rattle.std.specs.{Prelude.{take, ◌-◌}, List.{AllByRecursion, list_any}, Option.{unwrap_or}}
 use Rattle.std.proofs.lemmas.Bool.{true≢false}
 use Rattle.oc_base.specs.declared.format.Format.{Format}
-use Rattle.oc_linking.specs.Numbers.{or_else}
-use Rattle.oc_linking.specs.Parts.{is_local}
+use Rattle.oc_linking.specs.{Numbers.{or_else}, Parts.{is_local}}
 use Rattle.oc_neutral.specs.declared.symbol.Symbol.{Symbol}
 use Rattle.oc_names.specs.declared.edit.Edit.{Edit}
 use Rattle.oc_names.specs.declared.edit.Edit.TheVariants.{Rename, Prefix, Suffix, Alias, AliasPrefix, AliasSuffix, Weaken, MakeLocal, Underscore}
-use Rattle.oc_drop.specs.Steps.{first_in}
-use Rattle.oc_names.specs.NewNames.{final_name, has_underscores, in_habit, is_underscore, renamed, renamed_by}
-use Rattle.oc_names.specs.Naming.{named, with_name}
+use Rattle.oc_names.specs.{NewNames.{final_name, has_underscores, in_habit, is_underscore, renamed, renamed_by}, Naming.{named, with_name}}
 use Rattle.oc_names.specs.Turns.{is_about, Leave, IsApart}
+use Rattle.oc_drop.specs.Steps.{first_in}
 
 -- ... an edit that is not about a name
 

@@ -1,33 +1,21 @@
 -- An object that is brought to normal form twice is one that is brought to it once, whatever its names.
 use Rattle.std.proofs.Common.{◌≡◌, ℕ, zero, suc, ◌+◌, ◌<◌, List, [], ◌∷◌, length, map, Option, Some, None, refl, sym, ◌∙◌, ap, subst, arith}
 use mathlib.Core.Path.{fun_ext}
-use Rattle.std.specs.Prelude.{slice_get, fold}
-use Rattle.std.specs.List.{AllByRecursion, filter_map, enumerate_from}
-use Rattle.std.specs.Option.{option_map, option_and_then}
+use Rattle.std.specs.{Prelude.{slice_get, fold}, List.{AllByRecursion, filter_map, enumerate_from}, Option.{option_map, option_and_then}}
 use Rattle.std.proofs.lemmas.Option.{get_or_from_slice_get, slice_get-map, slice_get_within}
-use Rattle.oc_base.specs.declared.fault.Fault.{Fault}
-use Rattle.oc_base.specs.declared.format.Word.{Word}
-use Rattle.oc_base.specs.Formats.{word_for}
+use Rattle.oc_base.specs.{declared.fault.Fault.{Fault}, declared.format.Word.{Word}, Formats.{word_for}}
 use Rattle.oc_linking.specs.Numbers.{or_else, first_upto}
-use Rattle.oc_chains.specs.declared.field.Field.{Field}
-use Rattle.oc_chains.specs.Lists.{list_of}
-use Rattle.oc_neutral.specs.declared.group.Group.{Group}
-use Rattle.oc_neutral.specs.declared.section.Section.{Section}
-use Rattle.oc_neutral.specs.declared.symbol.Symbol.{Symbol}
-use Rattle.oc_neutral.specs.declared.reloc.Target.{Target}
+use Rattle.oc_chains.specs.{declared.field.Field.{Field}, Lists.{list_of}}
+use Rattle.oc_neutral.specs.{declared.group.Group.{Group}, declared.section.Section.{Section}, declared.symbol.Symbol.{Symbol}, declared.reloc.Target.{Target}}
+use Rattle.oc_neutral.specs.{declared.reloc.Reloc.{Reloc}, declared.normal.Normal.{Normal}, Objects.{Object}}
+use Rattle.oc_neutral.specs.{Normal.{at_section, by_section, folded, local_place, place_among}, Invariants.{IsHeld, IsObject}}
 use Rattle.oc_neutral.specs.declared.reloc.Target.TheVariants as target
-use Rattle.oc_neutral.specs.declared.reloc.Reloc.{Reloc}
-use Rattle.oc_neutral.specs.declared.normal.Normal.{Normal}
-use Rattle.oc_neutral.specs.Objects.{Object}
-use Rattle.oc_neutral.specs.Normal.{at_section, by_section, folded, local_place, place_among}
-use Rattle.oc_neutral.specs.Invariants.{IsHeld, IsObject}
 use Rattle.oc_neutral.proofs.Positions.{each_weaker, there_at}
 use Rattle.oc_drop.specs.Steps.{first_field, first_in, fault_in, unless}
 use Rattle.oc_names.specs.Rebinding.{after_relocs, fault_of, field_of, kept_field, left_in, lists_left, normalized, section_of, sections_left, unfit_fault}
 use Rattle.oc_names.specs.Naming.{with_names}
 use Rattle.oc_drop.proofs.FirstLaws.{none_of_section}
-use Rattle.oc_names.proofs.NormalFields.{IsWide, folded_in, frame_fold, numbered_at, numbered_long}
-use Rattle.oc_names.proofs.ReboundFields.{list_left}
+use Rattle.oc_names.proofs.{NormalFields.{IsWide, folded_in, frame_fold, numbered_at, numbered_long}, ReboundFields.{list_left}}
 use Rattle.oc_names.proofs.TurnsFields.{KeepsPlaces, IsLeftTwice, left_twice, fields_twice, faults_twice, constants_twice}
 
 -- ... lists with numbered items

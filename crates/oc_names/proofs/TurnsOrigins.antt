@@ -1,42 +1,22 @@
 -- What is asked of the symbols of an object, by what CanFollow asks of the object that they come from.
 use Rattle.std.proofs.Common.{◌≡◌, ◌≢◌, ℕ, Bool, true, false, List, [], ◌∷◌, length, map, Option, Some, None, Ok, inl, inr, refl, sym, ◌∙◌, ap, subst}
-use Rattle.std.specs.Prelude.{slice_get}
-use Rattle.std.specs.List.{AllByRecursion}
-use Rattle.std.specs.Option.{option_map, option_and_then}
-use Rattle.std.proofs.lemmas.Bool.{true≢false}
-use Rattle.std.proofs.lemmas.List.{length-map}
-use Rattle.std.proofs.lemmas.Option.{none-some, slice_get-map}
+use Rattle.std.specs.{Prelude.{slice_get}, List.{AllByRecursion}, Option.{option_map, option_and_then}}
+use Rattle.std.proofs.lemmas.{Bool.{true≢false}, List.{length-map}, Option.{none-some, slice_get-map}}
 use Rattle.oc_base.specs.declared.format.Format.{Format}
 use Rattle.oc_linking.specs.declared.terms.Fallback.TheVariants as fallback
-use Rattle.oc_linking.specs.declared.terms.Binding.{Binding}
-use Rattle.oc_linking.specs.declared.terms.Binding.TheVariants.{Local, Global, Undefined, Common, Weak}
-use Rattle.oc_linking.specs.declared.terms.Keep.{Keep}
-use Rattle.oc_linking.specs.Parts.{is_local}
-use Rattle.oc_neutral.specs.declared.symbol.Symbol.{Symbol}
-use Rattle.oc_neutral.specs.declared.reloc.Target.TheVariants as target
-use Rattle.oc_neutral.specs.Objects.{Object}
-use Rattle.oc_neutral.specs.Normal.{Place, local_place, place_among}
-use Rattle.oc_neutral.specs.Invariants.{IsObject}
-use Rattle.oc_neutral.proofs.Mapped.{from_mapped, all_from}
-use Rattle.oc_names.specs.declared.edit.Edit.{Edit}
-use Rattle.oc_names.specs.declared.edit.Edit.TheVariants.{MakeLocal}
-use Rattle.oc_drop.specs.Steps.{first_in}
-use Rattle.oc_drop.specs.Dropping.{left, stays}
+use Rattle.oc_linking.specs.{declared.terms.Binding.{Binding}, declared.terms.Binding.TheVariants.{Local, Global, Undefined, Common, Weak}}
+use Rattle.oc_linking.specs.{declared.terms.Keep.{Keep}, Parts.{is_local}}
+use Rattle.oc_neutral.specs.{declared.symbol.Symbol.{Symbol}, Objects.{Object}, Normal.{Place, local_place, place_among}, Invariants.{IsObject}}
 use Rattle.oc_neutral.specs.Without.{IsDetached, moved_binding, symbols_stay}
-use Rattle.oc_names.specs.Rebinding.{after_words, after_words, bindings_of, fallback_fault, settled}
-use Rattle.oc_names.specs.EditedFile.{after_all}
-use Rattle.oc_names.specs.Turns.{CanFollow, IsApart}
-use Rattle.oc_drop.proofs.DroppedSections.{map_twice}
-use Rattle.oc_names.proofs.EditSteps.{after}
-use Rattle.oc_drop.proofs.StepLaws.{unless_ok}
-use Rattle.oc_neutral.proofs.LeftObject.{left_is_object}
-use Rattle.oc_neutral.proofs.LeftParts.{symbol_from}
-use Rattle.oc_names.proofs.TurnsNames.{IsApartSymbol}
-use Rattle.oc_names.proofs.TurnsKeys.{AreLater}
+use Rattle.oc_neutral.specs.declared.reloc.Target.TheVariants as target
+use Rattle.oc_neutral.proofs.{Mapped.{from_mapped, all_from}, LeftObject.{left_is_object}, LeftParts.{symbol_from}}
+use Rattle.oc_names.specs.{declared.edit.Edit.{Edit}, declared.edit.Edit.TheVariants.{MakeLocal}}
+use Rattle.oc_names.specs.{Rebinding.{after_words, after_words, bindings_of, fallback_fault, settled}, EditedFile.{after_all}, Turns.{CanFollow, IsApart}}
+use Rattle.oc_drop.specs.{Steps.{first_in}, Dropping.{left, stays}}
+use Rattle.oc_drop.proofs.{DroppedSections.{map_twice}, StepLaws.{unless_ok}}
+use Rattle.oc_names.proofs.{EditSteps.{after}, TurnsNames.{IsApartSymbol}, TurnsKeys.{AreLater}}
 use Rattle.oc_names.proofs.TurnsBindings.{after_bound, bound, bound_local, local_settled, own_bound, stands_for, stands_or_not}
-use Rattle.oc_names.proofs.TurnsWords.{MayPass, words_are, words_fault}
-use Rattle.oc_names.proofs.TurnsFallbacks.{all_later, place_kept}
-use Rattle.oc_names.proofs.TurnsFields.{KeepsPlaces}
+use Rattle.oc_names.proofs.{TurnsWords.{MayPass, words_are, words_fault}, TurnsFallbacks.{all_later, place_kept}, TurnsFields.{KeepsPlaces}}
 
 -- ... bindings that sections and symbols at other positions leave
 

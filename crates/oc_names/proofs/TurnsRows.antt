@@ -1,18 +1,13 @@
 -- What two lists of edits make of small objects, in turn and at once.
 use Rattle.std.proofs.Common.{◌≡◌, ℕ, List, [], ◌∷◌, Result, Ok, Err, refl}
 use Rattle.std.specs.Prelude.{codes}
-use Rattle.oc_base.specs.declared.code.Code.TheVariants.{NameClash, PinnedWeak}
-use Rattle.oc_base.specs.declared.fault.Fault.{Fault}
+use Rattle.oc_base.specs.{declared.code.Code.TheVariants.{NameClash, PinnedWeak}, declared.fault.Fault.{Fault}}
 use Rattle.oc_base.specs.declared.format.Format.TheVariants.{Coff32, Elf32}
-use Rattle.oc_linking.specs.declared.terms.Value.TheVariants.{Place}
-use Rattle.oc_linking.specs.declared.terms.Fallback.TheVariants as fallback
-use Rattle.oc_linking.specs.declared.terms.Binding.{Binding}
+use Rattle.oc_linking.specs.{declared.terms.Value.TheVariants.{Place}, declared.terms.Binding.{Binding}}
 use Rattle.oc_linking.specs.declared.terms.Binding.TheVariants.{Local, Global, Weak}
-use Rattle.oc_neutral.specs.declared.symbol.Symbol.{Symbol}
-use Rattle.oc_neutral.specs.Objects.{Object}
-use Rattle.oc_names.specs.declared.edit.Edit.{Edit}
-use Rattle.oc_names.specs.declared.edit.Edit.TheVariants.{Alias, MakeLocal, Rename, Underscore, Weaken}
-use Rattle.oc_names.specs.Edited.{edited}
+use Rattle.oc_linking.specs.declared.terms.Fallback.TheVariants as fallback
+use Rattle.oc_neutral.specs.{declared.symbol.Symbol.{Symbol}, Objects.{Object}}
+use Rattle.oc_names.specs.{declared.edit.Edit.{Edit}, declared.edit.Edit.TheVariants.{Alias, MakeLocal, Rename, Underscore, Weaken}, Edited.{edited}}
 use Rattle.oc_drop.specs.Steps.{edit_fault, then_by}
 use Rattle.oc_drop.proofs.Examples.{symbol}
 use Rattle.oc_names.proofs.Examples.{asked, symbols_alone}

@@ -1,22 +1,16 @@
 -- Symbols that are named twice, and the further ones that the second edits give.
 use Rattle.std.proofs.Common.{◌≡◌, ℕ, ◌+◌, Bool, true, false, cond, List, [], ◌∷◌, ◌++◌, append-nil, length, map, drop, Option, Some, None, refl, sym, ◌∙◌, ap}
-use Rattle.std.specs.Prelude.{take, ◌-◌}
-use Rattle.std.specs.List.{AllByRecursion, filter_map, cons_option}
-use Rattle.std.specs.Option.{option_map}
-use Rattle.std.proofs.lemmas.Bool.{true≢false}
-use Rattle.std.proofs.lemmas.List.{length-map}
+use Rattle.std.specs.{Prelude.{take, ◌-◌}, List.{AllByRecursion, filter_map, cons_option}, Option.{option_map}}
+use Rattle.std.proofs.lemmas.{Bool.{true≢false}, List.{length-map}}
 use Rattle.oc_base.specs.declared.format.Format.{Format}
-use Rattle.oc_linking.specs.Numbers.{or_else}
-use Rattle.oc_linking.specs.Parts.{is_local}
+use Rattle.oc_linking.specs.{Numbers.{or_else}, Parts.{is_local}}
 use Rattle.oc_neutral.specs.declared.symbol.Symbol.{Symbol}
 use Rattle.oc_neutral.proofs.Positions.{each_weaker}
 use Rattle.oc_names.specs.declared.edit.Edit.{Edit}
 use Rattle.oc_names.specs.declared.edit.Edit.TheVariants.{Rename, Prefix, Suffix, Alias, AliasPrefix, AliasSuffix, Weaken, MakeLocal, Underscore}
+use Rattle.oc_names.specs.{NewNames.{alias_by, renamed_by}, Matching.{is_alias}}
+use Rattle.oc_names.specs.{Naming.{alias, alias_of, aliases, all_named, is_definition, count_named, named, with_name}, Turns.{is_about}}
 use Rattle.oc_drop.specs.Steps.{first_in}
-use Rattle.oc_names.specs.NewNames.{alias_by, renamed_by}
-use Rattle.oc_names.specs.Matching.{is_alias}
-use Rattle.oc_names.specs.Naming.{alias, alias_of, aliases, all_named, is_definition, count_named, named, with_name}
-use Rattle.oc_names.specs.Turns.{is_about}
 use Rattle.oc_names.proofs.TurnsNames.{ArePlain, IsApartSymbol, apart_one, apart_rest, leave_first, named_kept, named_local, named_new, named_twice}
 
 -- ... lists of images

@@ -2,26 +2,15 @@
 use Rattle.std.proofs.Common.{◌≡◌, ◌≢◌, ℕ, Bool, true, false, ◌&&◌, cond, List, [], ◌∷◌, ◌++◌, map, Option, Some, None, Ok, inl, inr, refl, sym, ◌∙◌, ap}
 use Rattle.std.specs.List.{AllByRecursion}
 use Rattle.std.proofs.lemmas.Bool.{true≢false}
-use Rattle.oc_base.specs.declared.code.Code.TheVariants.{PinnedWeak}
-use Rattle.oc_base.specs.declared.fault.Fault.{Fault}
-use Rattle.oc_base.specs.declared.format.Format.{Format}
+use Rattle.oc_base.specs.{declared.code.Code.TheVariants.{PinnedWeak}, declared.fault.Fault.{Fault}, declared.format.Format.{Format}}
 use Rattle.oc_linking.specs.declared.terms.Fallback.TheVariants as fallback
-use Rattle.oc_linking.specs.declared.terms.Binding.{Binding}
-use Rattle.oc_linking.specs.declared.terms.Binding.TheVariants.{Weak}
-use Rattle.oc_linking.specs.Numbers.{or_else}
-use Rattle.oc_linking.specs.Parts.{is_local}
-use Rattle.oc_neutral.specs.declared.symbol.Symbol.{Symbol}
-use Rattle.oc_names.specs.declared.edit.Edit.{Edit}
-use Rattle.oc_names.specs.declared.edit.Edit.TheVariants.{MakeLocal}
+use Rattle.oc_linking.specs.{declared.terms.Binding.{Binding}, declared.terms.Binding.TheVariants.{Weak}, Numbers.{or_else}, Parts.{is_local}}
+use Rattle.oc_neutral.specs.{declared.symbol.Symbol.{Symbol}, Without.{with_binding}}
+use Rattle.oc_names.specs.{declared.edit.Edit.{Edit}, declared.edit.Edit.TheVariants.{MakeLocal}}
+use Rattle.oc_names.specs.{Rebinding.{after_words, is_global, is_weakened, pinned_fault, rebound, rebound_by, settled, settled_binding}, NewNames.{renamed_by}}
+use Rattle.oc_names.specs.{Naming.{named, with_name}, EditedFile.{after_all}, Turns.{is_about}}
 use Rattle.oc_drop.specs.Steps.{first_in, symbol_fault, then_by, unless}
-use Rattle.oc_neutral.specs.Without.{with_binding}
-use Rattle.oc_names.specs.Rebinding.{after_words, is_global, is_weakened, pinned_fault, rebound, rebound_by, settled, settled_binding}
-use Rattle.oc_names.specs.NewNames.{renamed_by}
-use Rattle.oc_names.specs.Naming.{named, with_name}
-use Rattle.oc_names.specs.EditedFile.{after_all}
-use Rattle.oc_names.specs.Turns.{is_about}
-use Rattle.oc_neutral.proofs.Positions.{each_weaker}
-use Rattle.oc_neutral.proofs.LeftObject.{all_map}
+use Rattle.oc_neutral.proofs.{Positions.{each_weaker}, LeftObject.{all_map}}
 use Rattle.oc_drop.proofs.DroppedSections.{map_twice}
 use Rattle.oc_names.proofs.TurnsNames.{ArePlain, IsApartSymbol, apart_one, apart_rest, leave_first, named_kept, named_local, named_new}
 use Rattle.oc_names.proofs.TurnsSymbols.{first_alike, map_alike}

@@ -1,46 +1,27 @@
 -- Where nothing is asked for and every section is kept, the edited object is the object.
 use Rattle.std.proofs.Common.{◌≡◌, ◌≢◌, ℕ, suc, ◌+◌, ◌^◌, ◌<◌, ◌≤◌, Bool, true, false, cond, not, ◌&&◌, eqb, nat_lt, List, [], ◌∷◌, length, map, fold, Option, Some, None, Ok, refl, sym, ◌∙◌, ap, arith, append-nil}
-use Rattle.std.specs.Prelude.{slice_get, filter_map}
-use Rattle.std.specs.List.{enumerate_from, cons_option}
-use Rattle.std.specs.Option.{option_map, option_map_or, option_and_then, option_flatten}
-use Rattle.std.proofs.lemmas.Bool.{true≢false, ne_eqb}
-use Rattle.std.proofs.lemmas.Bool.Decides.{nat_tests}
-use Rattle.std.proofs.lemmas.List.{length-map}
+use Rattle.std.specs.{Prelude.{slice_get, filter_map}, List.{enumerate_from, cons_option}, Option.{option_map, option_map_or, option_and_then, option_flatten}}
+use Rattle.std.proofs.lemmas.{Bool.{true≢false, ne_eqb}, Bool.Decides.{nat_tests}, List.{length-map}}
 use Rattle.std.proofs.lemmas.Option.{none-some, same_Some, slice_get-map, slice_get_within, get_or_from_slice_get}
-use Rattle.oc_base.specs.declared.format.Format.{Format}
-use Rattle.oc_base.specs.declared.format.Word.{Word}
-use Rattle.oc_base.specs.Formats.{word_for}
+use Rattle.oc_base.specs.{declared.format.Format.{Format}, declared.format.Word.{Word}, Formats.{word_for}}
+use Rattle.oc_base.specs.declared.code.Code.TheVariants.{LimitSymbols, EmptyName}
 use Rattle.oc_linking.specs.declared.terms.Fallback.TheVariants as fallback
-use Rattle.oc_linking.specs.declared.terms.Binding.{Binding}
-use Rattle.oc_linking.specs.declared.terms.Binding.TheVariants.{Local, Global, Undefined, Common, Weak}
-use Rattle.oc_linking.specs.Numbers.{or_else}
-use Rattle.oc_linking.specs.Parts.{is_local}
+use Rattle.oc_linking.specs.{declared.terms.Binding.{Binding}, declared.terms.Binding.TheVariants.{Local, Global, Undefined, Common, Weak}, Numbers.{or_else}}
+use Rattle.oc_linking.specs.{Parts.{is_local}, declared.terms.Keep.{Keep}}
 use Rattle.oc_linking.proofs.FirstFaultLaws.{first_upto_none}
-use Rattle.oc_chains.specs.declared.field.Field.{Field}
-use Rattle.oc_chains.specs.Lists.{list_of}
-use Rattle.oc_neutral.specs.declared.group.Group.{Group}
-use Rattle.oc_neutral.specs.declared.section.Section.{Section}
-use Rattle.oc_neutral.specs.declared.symbol.Symbol.{Symbol}
-use Rattle.oc_neutral.specs.declared.reloc.Reloc.{Reloc}
+use Rattle.oc_chains.specs.{declared.field.Field.{Field}, Lists.{list_of}}
+use Rattle.oc_neutral.specs.{declared.group.Group.{Group}, declared.section.Section.{Section}, declared.symbol.Symbol.{Symbol}, declared.reloc.Reloc.{Reloc}}
+use Rattle.oc_neutral.specs.{Objects.{Object}, Building.{has_name}, Normal.{by_section, folded, by_place, normal_of, at_section, takes_section}}
+use Rattle.oc_neutral.specs.{Invariants.{IsBinding, is_strong, IsNormal, IsObject}, Without.{with_binding}}
 use Rattle.oc_neutral.specs.declared.normal.Normal.TheVariants as normal
-use Rattle.oc_neutral.specs.Objects.{Object}
-use Rattle.oc_neutral.specs.Building.{has_name}
-use Rattle.oc_neutral.specs.Normal.{by_section, folded, by_place, normal_of, at_section, takes_section}
 use Rattle.oc_strings.specs.Repeats.{nonlocal_name, name_at, repeat_at, first_repeat}
-use Rattle.oc_neutral.specs.Invariants.{IsBinding, is_strong, IsNormal, IsObject}
 use Rattle.oc_neutral.proofs.Positions.{there_at}
 use Rattle.oc_strings.proofs.RepeatLemmas.{no_repeat}
-use Rattle.oc_drop.specs.Steps.{first_in, unless, then_by, edit_fault, symbol_fault, fault_in, first_field}
-use Rattle.oc_base.specs.declared.code.Code.TheVariants.{LimitSymbols, EmptyName}
-use Rattle.oc_neutral.specs.Without.{with_binding}
-use Rattle.oc_drop.proofs.NothingDropped.{symbol_is, held, none_first, map_stays, never_and, dropped_same}
+use Rattle.oc_drop.specs.{Steps.{first_in, unless, then_by, edit_fault, symbol_fault, fault_in, first_field}, Dropping.{dropped}}
+use Rattle.oc_drop.proofs.{NothingDropped.{symbol_is, held, none_first, map_stays, never_and, dropped_same}, FirstLaws.{none_upto}}
 use Rattle.oc_names.specs.Rebinding.{bindings_of, fallback_binding, fallback_code, fallback_fault, placed_fallback, settled_binding, settled, after_fallbacks, left_in, kept_field, field_of, unfit_fault, fault_of, with_constant, section_of, lists_left, sections_left, normalized, after_relocs, rebound_object}
 use Rattle.oc_names.specs.Naming.{count_named, count_fault, named, all_named, nonlocal_names, empty_fault, clash_fault, name_fault_at, names_fault, edited_group, groups_named, keys_of, key_clash, keys_fault, parts_fault, with_names, named_object}
-use Rattle.oc_drop.proofs.FirstLaws.{none_upto}
-use Rattle.oc_names.specs.Laws.{NothingIsEdited}
-use Rattle.oc_drop.specs.Dropping.{dropped}
-use Rattle.oc_names.specs.Kept.{keep_for}
-use Rattle.oc_linking.specs.declared.terms.Keep.{Keep}
+use Rattle.oc_names.specs.{Laws.{NothingIsEdited}, Kept.{keep_for}}
 
 -- ... lists
 

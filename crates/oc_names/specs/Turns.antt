@@ -3,18 +3,12 @@ use Rattle.std.specs.Prelude.{◌≡◌, ◌≢◌, ℕ, Bool, true, false, nat_
 use Rattle.std.specs.List.{AllByRecursion, list_any, starts_with, ends_with}
 use Rattle.oc_base.specs.declared.format.Format.{Format}
 use Rattle.oc_linking.specs.declared.terms.Fallback.TheVariants as fallback
-use Rattle.oc_linking.specs.declared.terms.Binding.TheVariants.{Weak}
-use Rattle.oc_linking.specs.Parts.{is_local}
-use Rattle.oc_neutral.specs.declared.symbol.Symbol.{Symbol}
-use Rattle.oc_neutral.specs.Objects.{Object}
-use Rattle.oc_neutral.specs.Invariants.{IsObject}
+use Rattle.oc_linking.specs.{declared.terms.Binding.TheVariants.{Weak}, Parts.{is_local}}
+use Rattle.oc_neutral.specs.{declared.symbol.Symbol.{Symbol}, Objects.{Object}, Invariants.{IsObject}}
 use Rattle.oc_names.specs.declared.edit.Edit.{Edit}
 use Rattle.oc_names.specs.declared.edit.Edit.TheVariants.{Rename, Prefix, Suffix, Alias, AliasPrefix, AliasSuffix, Weaken, MakeLocal, Underscore}
+use Rattle.oc_names.specs.{NewNames.{is_underscore, renamed_by}, Matching.{is_alias}, Wishes.{Wishes}, Edited.{edited}}
 use Rattle.oc_drop.specs.Steps.{first_in}
-use Rattle.oc_names.specs.NewNames.{is_underscore, renamed_by}
-use Rattle.oc_names.specs.Matching.{is_alias}
-use Rattle.oc_names.specs.Wishes.{Wishes}
-use Rattle.oc_names.specs.Edited.{edited}
 
 -- the wishes with these edits
 abbrev pub with_edits : Wishes → List Edit → Wishes

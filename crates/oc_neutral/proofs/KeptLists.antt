@@ -1,12 +1,9 @@
 -- Lists of which some stay: where each that stays comes to stand.
 use Rattle.std.proofs.Common.{◌≡◌, ℕ, zero, suc, ◌+◌, ◌<◌, ◌≤◌, Bool, true, false, cond, List, [], ◌∷◌, ◌++◌, length, take, drop, set, get_or, Some, inl, inr, refl, sym, ◌∙◌, ap, arith}
-use Rattle.std.specs.Prelude.{slice_get}
-use Rattle.std.specs.List.{AllByRecursion, sum_by, swap}
+use Rattle.std.specs.{Prelude.{slice_get}, List.{AllByRecursion, sum_by, swap}}
 use Rattle.std.proofs.lemmas.Bool.{cases_lt, true≢false}
 use Rattle.std.proofs.lemmas.List.{drop-drop, drop-set-lt, get_or_default, get_or-drop, length-set, take-set, take-set-le, take_more_set}
-use Rattle.std.proofs.lemmas.List.Edits.{length-swap, swap_is}
-use Rattle.std.proofs.lemmas.List.Sums.{sum_by-cons}
-use Rattle.std.proofs.lemmas.Option.{none-some}
+use Rattle.std.proofs.lemmas.{List.Edits.{length-swap, swap_is}, List.Sums.{sum_by-cons}, Option.{none-some}}
 use Rattle.oc_linking.specs.Keeping.{kept_of}
 use Rattle.oc_neutral.specs.Without.{new_position}
 

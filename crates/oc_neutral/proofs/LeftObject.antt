@@ -1,24 +1,14 @@
 -- What is left of an object is an object.
 use Rattle.std.proofs.Common.{◌≡◌, false, not, ◌&&◌, ℕ, ◌+◌, ◌<◌, ◌≤◌, Bool, true, false, List, [], ◌∷◌, length, map, Some, inl, inr, refl, sym, ◌∙◌, ap, subst, arith}
-use Rattle.std.specs.Prelude.{slice_get}
-use Rattle.std.specs.List.{AllByRecursion, sum_by}
-use Rattle.std.proofs.lemmas.Bool.{cases_lt}
-use Rattle.std.proofs.lemmas.List.{length-map, get_or_past}
-use Rattle.std.proofs.lemmas.List.Sums.{sum_by-cons}
-use Rattle.std.proofs.lemmas.Option.{get_or_from_slice_get, slice_get_within}
+use Rattle.std.specs.{Prelude.{slice_get}, List.{AllByRecursion, sum_by}}
+use Rattle.std.proofs.lemmas.{Bool.{cases_lt}, List.{length-map, get_or_past}, List.Sums.{sum_by-cons}, Option.{get_or_from_slice_get, slice_get_within}}
 use Rattle.oc_linking.specs.Keeping.{kept_of}
-use Rattle.oc_chains.specs.declared.field.Field.{Field}
-use Rattle.oc_chains.specs.Fields.{FollowFrom, end_of}
-use Rattle.oc_chains.specs.Lists.{list_of}
-use Rattle.oc_neutral.specs.declared.group.Group.{Group}
-use Rattle.oc_neutral.specs.declared.section.Section.{Section}
-use Rattle.oc_neutral.specs.declared.reloc.Reloc.{Reloc}
-use Rattle.oc_neutral.specs.Objects.{Object}
+use Rattle.oc_chains.specs.{declared.field.Field.{Field}, Fields.{FollowFrom, end_of}, Lists.{list_of}}
+use Rattle.oc_neutral.specs.{declared.group.Group.{Group}, declared.section.Section.{Section}, declared.reloc.Reloc.{Reloc}, Objects.{Object}}
 use Rattle.oc_neutral.specs.Building.{stored_size}
 use Rattle.oc_neutral.specs.Invariants.{AreBytes, HasItsBytes, IsAlign, IsSection, IsMember, WithinLimits, HoldsFields, AreFew, IsHeld, IsHinted, NamesOriginal, AreBegun, groups_of, IsBuilt, IsComplete, IsObject}
-use Rattle.oc_neutral.proofs.Positions.{each_weaker, there_at}
-use Rattle.oc_neutral.proofs.Mapped.{list_map, held_map}
 use Rattle.oc_neutral.specs.Without.{IsDetached, is_dropped, refers_to_dropped, new_position, moved_field, groups_left, regrouped}
+use Rattle.oc_neutral.proofs.{Positions.{each_weaker, there_at}, Mapped.{list_map, held_map}}
 use Rattle.oc_neutral.proofs.KeptLists.{Stays, kept_there, all_kept, kept_few, kept_long, sum_kept}
 use Rattle.oc_neutral.proofs.LeftParts.{flags, moved_symbol, left_object, section_from, symbols_fine, distinct, held_still, hinted_still, original_still}
 use Rattle.oc_neutral.proofs.Regrouping.{regroup_begun, regroup_members, left_single, left_low, left_few, picked_long, all_picked, picked_keys}

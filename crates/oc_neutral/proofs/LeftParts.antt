@@ -1,38 +1,22 @@
 -- What is left of an object, part by part: what is there stays there, at its new position.
 use Rattle.std.proofs.Common.{◌≡◌, ℕ, ◌<◌, Bool, true, false, not, ◌&&◌, eqb, List, length, get_or, Some, None, refl, sym, ◌∙◌, ap, subst, arith}
-use Rattle.std.specs.Prelude.{slice_get}
-use Rattle.std.specs.List.{AllByRecursion}
-use Rattle.std.specs.Option.{option_map, option_map_or}
-use Rattle.std.proofs.lemmas.Bool.{eq-eqb, ne_eqb, true≢false, not-false}
-use Rattle.std.proofs.lemmas.List.{length-map}
+use Rattle.std.specs.{Prelude.{slice_get}, List.{AllByRecursion}, Option.{option_map, option_map_or}}
+use Rattle.std.proofs.lemmas.{Bool.{eq-eqb, ne_eqb, true≢false, not-false}, List.{length-map}}
 use Rattle.std.proofs.lemmas.Option.{none-some, get_or_from_slice_get, slice_get-map, slice_get_within}
-use Rattle.oc_linking.specs.declared.terms.Value.{Value}
+use Rattle.oc_linking.specs.{declared.terms.Value.{Value}, declared.terms.Fallback.{Fallback}, declared.terms.Binding.{Binding}}
+use Rattle.oc_linking.specs.{declared.terms.Binding.TheVariants.{Local, Global, Undefined, Common, Weak}, declared.terms.Base.{Base}}
+use Rattle.oc_linking.specs.{declared.terms.Less.{Less}, Keeping.{kept_of}, Parts.{is_local}}
 use Rattle.oc_linking.specs.declared.terms.Value.TheVariants as value
-use Rattle.oc_linking.specs.declared.terms.Fallback.{Fallback}
 use Rattle.oc_linking.specs.declared.terms.Fallback.TheVariants as fallback
-use Rattle.oc_linking.specs.declared.terms.Binding.{Binding}
-use Rattle.oc_linking.specs.declared.terms.Binding.TheVariants.{Local, Global, Undefined, Common, Weak}
-use Rattle.oc_linking.specs.declared.terms.Base.{Base}
 use Rattle.oc_linking.specs.declared.terms.Base.TheVariants as base
-use Rattle.oc_linking.specs.declared.terms.Less.{Less}
 use Rattle.oc_linking.specs.declared.terms.Less.TheVariants as less
-use Rattle.oc_linking.specs.Keeping.{kept_of}
-use Rattle.oc_linking.specs.Parts.{is_local}
 use Rattle.oc_chains.specs.declared.field.Field.{Field}
-use Rattle.oc_neutral.specs.declared.section.Section.{Section}
-use Rattle.oc_neutral.specs.declared.symbol.Symbol.{Symbol}
-use Rattle.oc_neutral.specs.declared.reloc.Target.{Target}
-use Rattle.oc_neutral.specs.declared.reloc.Target.TheVariants as target
-use Rattle.oc_neutral.specs.declared.reloc.Reloc.{Reloc}
-use Rattle.oc_neutral.specs.Objects.{Object}
-use Rattle.oc_neutral.specs.Faces.{number_of}
-use Rattle.oc_neutral.specs.Normal.{local_place, place_among, cancels, takes_section}
+use Rattle.oc_neutral.specs.{declared.section.Section.{Section}, declared.symbol.Symbol.{Symbol}, declared.reloc.Target.{Target}, declared.reloc.Reloc.{Reloc}}
+use Rattle.oc_neutral.specs.{Objects.{Object}, Faces.{number_of}, Normal.{local_place, place_among, cancels, takes_section}}
 use Rattle.oc_neutral.specs.Invariants.{HasOffset, IsValue, is_strong, IsOriginal, IsFallback, IsBinding, IsSymbol, AreDistinct, IsThere, IsLessThere, IsNormal, IsHeld, IsHinted, NamesOriginal}
-use Rattle.oc_neutral.proofs.Adding.{or_left, or_right}
-use Rattle.oc_neutral.proofs.Mapped.{from_mapped, all_from}
-use Rattle.oc_neutral.proofs.NormalLemmas.{place_among-there}
-use Rattle.oc_neutral.proofs.Positions.{each_at, there_at}
 use Rattle.oc_neutral.specs.Without.{is_dropped, value_section, binding_section, lies_in_dropped, symbols_stay, targets_dropped, takes_dropped, refers_to_dropped, IsDetached, new_position, moved_value, moved_fallback, moved_binding, with_binding, moved_target, moved_less, moved_reloc, moved_field, groups_left, regrouped, left_of}
+use Rattle.oc_neutral.specs.declared.reloc.Target.TheVariants as target
+use Rattle.oc_neutral.proofs.{Adding.{or_left, or_right}, Mapped.{from_mapped, all_from}, NormalLemmas.{place_among-there}, Positions.{each_at, there_at}}
 use Rattle.oc_neutral.proofs.KeptLists.{Stays, kept_there, kept_from, old_order, one_position}
 use Rattle.oc_linking.proofs.LawProofs.{not-true}
 

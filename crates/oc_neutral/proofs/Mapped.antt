@@ -1,13 +1,8 @@
 -- What is mapped.
 use Rattle.std.proofs.Common.{◌≡◌, Option, Some, None, refl, ℕ, zero, suc, ◌+◌, List, [], ◌∷◌, length, map, sym, ◌∙◌, ap}
-use Rattle.std.specs.Option.{option_map}
-use Rattle.std.proofs.lemmas.Option.{none-some, same_Some}
-use Rattle.std.specs.Prelude.{slice_get}
-use Rattle.std.specs.List.{AllByRecursion}
-use Rattle.std.proofs.lemmas.List.{length-map}
-use Rattle.std.proofs.lemmas.List.Sums.{sum_by-cons}
-use Rattle.oc_chains.specs.declared.field.Field.{Field}
-use Rattle.oc_chains.specs.Lists.{list_of, held_in}
+use Rattle.std.specs.{Option.{option_map}, Prelude.{slice_get}, List.{AllByRecursion}}
+use Rattle.std.proofs.lemmas.{Option.{none-some, same_Some}, List.{length-map}, List.Sums.{sum_by-cons}}
+use Rattle.oc_chains.specs.{declared.field.Field.{Field}, Lists.{list_of, held_in}}
 use Rattle.oc_neutral.specs.declared.reloc.Reloc.{Reloc}
 
 -- what a mapped option comes from

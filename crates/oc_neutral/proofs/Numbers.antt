@@ -1,15 +1,11 @@
 -- Lists under numbers of their own: what calls on the lists make of those of the sections.
 use Rattle.std.proofs.Common.{◌≡◌, ◌≢◌, ℕ, zero, suc, ◌+◌, ◌<◌, ◌≤◌, Bool, true, false, cond, List, [], ◌∷◌, length, get_or, map, set, sum_by, take, Option, Some, None, Result, Ok, Err, IfSome, OnErr, OnOk, inl, inr, ◌⊎◌, refl, sym, ◌∙◌, ap, subst, arith}
 use Rattle.std.specs.List.{AllByRecursion, AllZip, range_with_len}
-use Rattle.std.proofs.lemmas.Bool.{cases_eq}
-use Rattle.std.proofs.lemmas.List.{get_or_default, get_or-map, get_or-set_other, get_or-set_same, length-map, length-set}
-use Rattle.std.proofs.lemmas.List.Elements.{AllZip-get_or, length_all_zip}
-use Rattle.std.proofs.lemmas.List.FromFn.{get_or-range_with_len, length-range_with_len}
+use Rattle.std.proofs.lemmas.{Bool.{cases_eq}, List.{get_or_default, get_or-map, get_or-set_other, get_or-set_same, length-map, length-set}}
+use Rattle.std.proofs.lemmas.{List.Elements.{AllZip-get_or, length_all_zip}, List.FromFn.{get_or-range_with_len, length-range_with_len}}
 use Rattle.std.proofs.lemmas.List.Sums.{sum_by-cons, sum_by-set, sum_by-take-le, sum_by_more}
 use Rattle.oc_linking.specs.Keeping.{kept_of}
-use Rattle.oc_chains.specs.declared.field.Field.{Field}
-use Rattle.oc_chains.specs.Changed.{AllAreOf, AreAnswered, AreOf, IsAnswered}
-use Rattle.oc_chains.specs.Lists.{Chained, Lists, held_in, list_of}
+use Rattle.oc_chains.specs.{declared.field.Field.{Field}, Changed.{AllAreOf, AreAnswered, AreOf, IsAnswered}, Lists.{Chained, Lists, held_in, list_of}}
 use Rattle.oc_neutral.specs.Numbered.{AreNumbers, AreRising, emptied, lists_by, number_at, numbered, numbers_by}
 
 -- ... numbers

@@ -1,8 +1,6 @@
 -- Lists that are kept under numbers of their own (our profile): those of the sections that are left are some of all lists.
-use Rattle.std.specs.Prelude.{◌≡◌, ℕ, ◌+◌, ◌≤◌, Bool, true, false, List, [], ◌∷◌, length, map, slice_index_or, Option, Some, None, Vec}
-use Rattle.std.specs.Global.{Global}
-use Rattle.std.specs.List.{range_with_len}
-use Rattle.std.specs.Option.{option_map}
+use Rattle.std.specs.{Prelude.{◌≡◌, ℕ, ◌+◌, ◌≤◌, Bool, true, false, List, [], ◌∷◌, length, map, slice_index_or, Option, Some, None, Vec}, Global.{Global}}
+use Rattle.std.specs.{List.{range_with_len}, Option.{option_map}}
 use Rattle.oc_chains.specs.Lists.{Lists, held_in, list_of}
 
 -- the numbers that the sections' lists have of their own, where they have

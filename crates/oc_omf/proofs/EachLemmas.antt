@@ -1,10 +1,8 @@
 -- Structures that are read one behind another to the end of the contents.
 use Rattle.std.proofs.Common.{◌≡◌, ℕ, zero, suc, ◌+◌, ◌-◌, ◌<◌, ◌≤◌, Bool, true, false, cond, List, [], ◌∷◌, length, Ok, Err, refl, ◌∙◌, ap, arith}
 use Rattle.std.specs.Prelude.{nat_lt}
-use Rattle.std.proofs.lemmas.Bool.{true≢false}
-use Rattle.std.proofs.lemmas.Bool.Decides.{nat_tests}
-use Rattle.oc_omf.specs.declared.cut.Cut.{Cut}
-use Rattle.oc_omf.specs.Cursor.{Reading, Read, and_more, each_upto, each_read, index_read, name_read, next, number_read}
+use Rattle.std.proofs.lemmas.{Bool.{true≢false}, Bool.Decides.{nat_tests}}
+use Rattle.oc_omf.specs.{declared.cut.Cut.{Cut}, Cursor.{Reading, Read, and_more, each_upto, each_read, index_read, name_read, next, number_read}}
 use Rattle.oc_omf.specs.Structures.{member_read}
 
 -- each structure that is read has a byte, and ends in the contents

@@ -1,9 +1,7 @@
 -- Structures with their numbers, and one more at the end.
 use Rattle.std.proofs.Common.{◌≡◌, ℕ, ◌+◌, ◌<◌, Bool, List, [], ◌∷◌, length, take, Some, refl, ◌∙◌, ap, arith}
-use Rattle.std.specs.Prelude.{◌||◌, false, get_or, slice_get}
-use Rattle.std.specs.List.{enumerate_from, list_any}
-use Rattle.std.proofs.lemmas.List.Folds.{list_any-append}
-use Rattle.std.proofs.lemmas.List.FromFn.{get_or-enumerate_from, length-enumerate_from}
+use Rattle.std.specs.{Prelude.{◌||◌, false, get_or, slice_get}, List.{enumerate_from, list_any}}
+use Rattle.std.proofs.lemmas.{List.Folds.{list_any-append}, List.FromFn.{get_or-enumerate_from, length-enumerate_from}}
 use Rattle.std.proofs.lemmas.Option.{get_or_from_slice_get, slice_get-get_or, slice_get_within}
 use Rattle.oc_linking.specs.FirstFault.{Condition, first_broken}
 use Rattle.oc_neutral.specs.TargetSections.{each_of}

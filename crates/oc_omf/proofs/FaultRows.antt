@@ -1,28 +1,18 @@
 -- What modules are refused for, computed on modules that were put together by hand from TIS OMF 1.1: each condition alone, and beside the one before it.
 use Rattle.std.proofs.Common.{◌≡◌, ℕ, ◌+◌, false, List, [], ◌∷◌, ◌++◌, length, map, Some, None, Option, refl}
-use Rattle.std.specs.Prelude.{flat_map}
-use Rattle.std.specs.Option.{option_map}
-use Rattle.oc_base.specs.declared.code.Code.{Code}
+use Rattle.std.specs.{Prelude.{flat_map}, Option.{option_map}}
+use Rattle.oc_base.specs.{declared.code.Code.{Code}, declared.fault.Fault.{Fault}, declared.fault.Phase.{Phase}, Numbers.{number_at}}
 use Rattle.oc_base.specs.declared.code.Code.TheVariants as code
-use Rattle.oc_base.specs.declared.fault.Fault.{Fault}
-use Rattle.oc_base.specs.declared.fault.Phase.{Phase}
 use Rattle.oc_base.specs.declared.fault.Phase.TheVariants as phase
-use Rattle.oc_base.specs.Numbers.{number_at}
-use Rattle.oc_linking.specs.declared.terms.Keep.{Keep}
-use Rattle.oc_linking.specs.Keeping.{all}
+use Rattle.oc_linking.specs.{declared.terms.Keep.{Keep}, Keeping.{all}}
 use Rattle.oc_neutral.specs.Omf.Kinds.{omf_kind}
 use Rattle.oc_omf.specs.Cursor.{number_read, index_read, name_read, each_read}
 use Rattle.oc_omf.specs.Structures.{segment_read, member_read, group_read, base_read, public_read, external_read, communal_length, communal_read, piece_read, method_read, thread_read, frame_read, target_read, displacement_read, fixup_read, subrecord_read}
-use Rattle.oc_omf.specs.Entries.{said_by, places_in, entries_in}
-use Rattle.oc_omf.specs.Tables.{tables_of}
-use Rattle.oc_omf.specs.Symbols.{mentions_in, binding_of, symbols_in}
-use Rattle.oc_omf.specs.Fixups.{subrecords_upto, fixed_in}
-use Rattle.oc_omf.specs.Targets.{meaning_of}
-use Rattle.oc_omf.specs.HeaderFaults.{entry_conditions}
+use Rattle.oc_omf.specs.{Entries.{said_by, places_in, entries_in}, Tables.{tables_of}, Symbols.{mentions_in, binding_of, symbols_in}}
+use Rattle.oc_omf.specs.{Fixups.{subrecords_upto, fixed_in}, Targets.{meaning_of}, HeaderFaults.{entry_conditions}}
 use Rattle.oc_omf.specs.SectionFaults.{form_conditions, size_conditions, group_conditions, piece_conditions, all_bytes, conditions_on}
 use Rattle.oc_omf.specs.SymbolFaults.{base_conditions, public_conditions, communal_conditions, external_conditions, symbol_table}
-use Rattle.oc_omf.specs.RelocationFaults.{fixup_conditions, relocation_conditions}
-use Rattle.oc_omf.specs.Rules.{stages_of, fault_of}
+use Rattle.oc_omf.specs.{RelocationFaults.{fixup_conditions, relocation_conditions}, Rules.{stages_of, fault_of}}
 
 -- a fault: its phase, index, code and place
 abbrev Told : Type 0

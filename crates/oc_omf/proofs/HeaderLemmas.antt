@@ -1,13 +1,11 @@
 -- What stands at a place, judged by what reading an entry there gives.
 use Rattle.std.proofs.Common.{◌≡◌, ℕ, Bool, true, false, cond, List, Option, Some, Result, Ok, Err, refl}
 use Rattle.std.specs.Prelude.{not, slice_range}
-use Rattle.oc_base.specs.declared.code.Code.TheVariants.{Short, BadChecksum}
-use Rattle.oc_base.specs.declared.fault.Fault.{Fault}
+use Rattle.oc_base.specs.{declared.code.Code.TheVariants.{Short, BadChecksum}, declared.fault.Fault.{Fault}}
 use Rattle.oc_linking.specs.FirstFault.{first_broken}
-use Rattle.oc_omf_records.specs.declared.records.Entry.{Entry as Record}
-use Rattle.oc_omf_records.specs.declared.records.RecordFault.{RecordFault}
-use Rattle.oc_omf_records.specs.declared.records.RecordFault.TheVariants as record_fault
+use Rattle.oc_omf_records.specs.{declared.records.Entry.{Entry as Record}, declared.records.RecordFault.{RecordFault}}
 use Rattle.oc_omf_records.specs.NextEntry.{entry_at, entry_of, end_of_entry, is_whole, is_summed}
+use Rattle.oc_omf_records.specs.declared.records.RecordFault.TheVariants as record_fault
 use Rattle.oc_omf.specs.HeaderFaults.{entry_conditions, entry_fault, record_conditions}
 
 -- the first fault, by what is read

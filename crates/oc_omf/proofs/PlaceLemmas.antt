@@ -1,17 +1,11 @@
 -- The places of entries, one behind another.
 use Rattle.std.proofs.Common.{◌≡◌, ℕ, zero, suc, ◌+◌, ◌-◌, ◌<◌, ◌≤◌, Bool, true, List, [], ◌∷◌, ◌++◌, length, Some, None, refl, sym, ◌∙◌, ap, subst, arith, append_assoc}
-use Rattle.std.specs.Prelude.{get_or, slice_get, slice_range, take}
-use Rattle.std.specs.Option.{option_map_or}
-use Rattle.std.proofs.lemmas.Bool.Decides.{nat_tests}
-use Rattle.std.proofs.lemmas.Grind.{common_steps}
-use Rattle.oc_omf_records.specs.declared.records.Entry.{Entry as Record}
-use Rattle.oc_omf_records.specs.NextEntry.{end_of_entry, entry_of, is_whole}
-use Rattle.std.proofs.lemmas.Option.{slice_get-get_or, slice_get_within}
-use Rattle.std.proofs.lemmas.Bool.{not-false}
+use Rattle.std.specs.{Prelude.{get_or, slice_get, slice_range, take}, Option.{option_map_or}}
+use Rattle.std.proofs.lemmas.{Bool.Decides.{nat_tests}, Grind.{common_steps}, Option.{slice_get-get_or, slice_get_within}, Bool.{not-false}}
+use Rattle.oc_omf_records.specs.{declared.records.Entry.{Entry as Record}, NextEntry.{end_of_entry, entry_of, is_whole}}
 use Rattle.oc_linking.specs.FirstFault.{fault_of, first_broken, stage_fault}
 use Rattle.oc_shelf.proofs.ReadingLaws.StageLemmas.{all_hold, clean_at}
-use Rattle.oc_omf.specs.Entries.{next_place, places_upto, places_in}
-use Rattle.oc_omf.specs.HeaderFaults.{header_stage, entry_conditions, is_begun}
+use Rattle.oc_omf.specs.{Entries.{next_place, places_upto, places_in}, HeaderFaults.{header_stage, entry_conditions, is_begun}}
 use Rattle.oc_omf.proofs.EntryLemmas.{conditions_at}
 
 -- an entry that is whole has four bytes at least, and ends in the file

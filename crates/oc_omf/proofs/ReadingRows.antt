@@ -1,48 +1,26 @@
 -- What modules show, computed on worked modules: faults, sections, symbols, and fields with their residues where everything is at 0.
 use Rattle.std.proofs.Common.{◌≡◌, ℕ, ◌-◌, ◌^◌, List, [], ◌∷◌, map, codes, Some, None, Option, refl}
-use Rattle.std.specs.Prelude.{replicate, take}
-use Rattle.std.specs.Option.{option_map}
-use Rattle.oc_base.specs.declared.code.Code.{Code}
+use Rattle.std.specs.{Prelude.{replicate, take}, Option.{option_map}}
+use Rattle.oc_base.specs.{declared.code.Code.{Code}, declared.fault.Fault.{Fault}, declared.fault.Phase.{Phase}, Numbers.{number_at}}
 use Rattle.oc_base.specs.declared.code.Code.TheVariants as code
-use Rattle.oc_base.specs.declared.fault.Fault.{Fault}
-use Rattle.oc_base.specs.declared.fault.Phase.{Phase}
 use Rattle.oc_base.specs.declared.fault.Phase.TheVariants as phase
-use Rattle.oc_base.specs.Numbers.{number_at}
-use Rattle.oc_linking.specs.declared.terms.Kind.{Kind}
+use Rattle.oc_linking.specs.{declared.terms.Kind.{Kind}, declared.terms.Width.{Width}, declared.terms.Width.TheVariants.{Four}, declared.terms.Check.{Check}}
+use Rattle.oc_linking.specs.{declared.terms.Check.TheVariants.{Wrap}, declared.terms.Base.{Base}, declared.terms.Base.TheVariants.{Address}}
+use Rattle.oc_linking.specs.{declared.terms.Less.{Less}, declared.terms.Value.TheVariants.{Place}, declared.terms.Binding.{Binding}}
+use Rattle.oc_linking.specs.{declared.terms.Binding.TheVariants.{Local, Global, Undefined, Common}, Keeping.{all}, Parts.{Section, Symbol}, Placing.{zeros}}
+use Rattle.oc_linking.specs.{Rules.{Field, Named, Symbolic, Sectional}, Values.{worthless}}
 use Rattle.oc_linking.specs.declared.terms.Kind.TheVariants as kind
-use Rattle.oc_linking.specs.declared.terms.Width.{Width}
-use Rattle.oc_linking.specs.declared.terms.Width.TheVariants.{Four}
-use Rattle.oc_linking.specs.declared.terms.Check.{Check}
-use Rattle.oc_linking.specs.declared.terms.Check.TheVariants.{Wrap}
-use Rattle.oc_linking.specs.declared.terms.Base.{Base}
-use Rattle.oc_linking.specs.declared.terms.Base.TheVariants.{Address}
-use Rattle.oc_linking.specs.declared.terms.Less.{Less}
 use Rattle.oc_linking.specs.declared.terms.Less.TheVariants as less
-use Rattle.oc_linking.specs.declared.terms.Value.TheVariants.{Place}
-use Rattle.oc_linking.specs.declared.terms.Binding.{Binding}
-use Rattle.oc_linking.specs.declared.terms.Binding.TheVariants.{Local, Global, Undefined, Common}
-use Rattle.oc_linking.specs.Keeping.{all}
-use Rattle.oc_linking.specs.Parts.{Section, Symbol}
-use Rattle.oc_linking.specs.Placing.{zeros}
-use Rattle.oc_linking.specs.Rules.{Field, Named, Symbolic, Sectional}
-use Rattle.oc_linking.specs.Values.{worthless}
-use Rattle.oc_algebra.specs.Residues.{residue_of}
-use Rattle.oc_algebra.specs.Fields.{extended}
+use Rattle.oc_algebra.specs.{Residues.{residue_of}, Fields.{extended}}
 use Rattle.oc_neutral.specs.Omf.Kinds.{omf_kind}
 use Rattle.oc_omf.specs.Cursor.{number_read, index_read, name_read, each_read}
 use Rattle.oc_omf.specs.Structures.{segment_read, member_read, group_read, base_read, public_read, external_read, communal_length, communal_read, piece_read, method_read, thread_read, frame_read, target_read, displacement_read, fixup_read, subrecord_read}
-use Rattle.oc_omf.specs.Entries.{said_by, places_in, entries_in}
-use Rattle.oc_omf.specs.Tables.{tables_of}
-use Rattle.oc_omf.specs.Sections.{contents_of, sections_in}
-use Rattle.oc_omf.specs.Symbols.{mentions_in, binding_of, symbols_in}
-use Rattle.oc_omf.specs.Fixups.{subrecords_upto, fixed_in}
-use Rattle.oc_omf.specs.Targets.{meaning_of}
-use Rattle.oc_omf.specs.Fields.{field_by, fields_in}
+use Rattle.oc_omf.specs.{Entries.{said_by, places_in, entries_in}, Tables.{tables_of}, Sections.{contents_of, sections_in}}
+use Rattle.oc_omf.specs.{Symbols.{mentions_in, binding_of, symbols_in}, Fixups.{subrecords_upto, fixed_in}, Targets.{meaning_of}, Fields.{field_by, fields_in}}
 use Rattle.oc_omf.specs.HeaderFaults.{entry_conditions}
 use Rattle.oc_omf.specs.SectionFaults.{form_conditions, size_conditions, group_conditions, piece_conditions, all_bytes, conditions_on}
 use Rattle.oc_omf.specs.SymbolFaults.{base_conditions, public_conditions, communal_conditions, external_conditions, symbol_table}
-use Rattle.oc_omf.specs.RelocationFaults.{fixup_conditions, relocation_conditions}
-use Rattle.oc_omf.specs.Rules.{omf_rules, stages_of, fault_of}
+use Rattle.oc_omf.specs.{RelocationFaults.{fixup_conditions, relocation_conditions}, Rules.{omf_rules, stages_of, fault_of}}
 use Rattle.oc_omf.proofs.WorkedFiles.{threads, iterated, named, unsummed, missummed, lying, call, assorted}
 
 -- ... faults

@@ -2,9 +2,7 @@
 use Rattle.std.specs.Prelude.{ℕ, ◌+◌, ◌-◌, ◌*◌, ◌/◌, ◌%◌, ◌^◌, Bool, nat_lt, nat_le, if◌then◌else◌, List, [], ◌∷◌, ◌++◌, length, sum}
 use Rattle.oc_base.specs.Numbers.{bytes_of_number}
 use Rattle.oc_omf.specs.declared.constants.TheConstants.{NEAR, MOST_SHORT_LENGTH, OFFSET_32, LENGTH_OF_2, LENGTH_OF_3, LENGTH_OF_4}
-use Rattle.oc_omf.specs.declared.structures.Segment.{Segment}
-use Rattle.oc_omf.specs.declared.structures.PublicBase.{PublicBase}
-use Rattle.oc_omf.specs.declared.structures.Method.{Method}
+use Rattle.oc_omf.specs.{declared.structures.Segment.{Segment}, declared.structures.PublicBase.{PublicBase}, declared.structures.Method.{Method}}
 
 -- ... an entry
 

@@ -3,9 +3,7 @@ use Rattle.std.specs.Prelude.{ℕ, zero, suc, ◌+◌, ◌-◌, ◌%◌, Bool, f
 use Rattle.std.specs.Option.{option_map_or}
 use Rattle.oc_omf_records.specs.NextEntry.{is_whole, entry_of, end_of_entry}
 use Rattle.oc_omf.specs.declared.constants.TheConstants.{MODEND, EXTDEF, PUBDEF, LNAMES, SEGDEF, GRPDEF, FIXUPP, LEDATA, LIDATA, COMDEF, LEXTDEF, LPUBDEF, ENTRY_HEAD}
-use Rattle.oc_omf.specs.declared.structures.Segment.{Segment}
-use Rattle.oc_omf.specs.declared.structures.PublicBase.{PublicBase}
-use Rattle.oc_omf.specs.declared.structures.Subrecord.{Subrecord}
+use Rattle.oc_omf.specs.{declared.structures.Segment.{Segment}, declared.structures.PublicBase.{PublicBase}, declared.structures.Subrecord.{Subrecord}}
 use Rattle.oc_omf.specs.Cursor.{Reading, Read, name_read, each_read}
 use Rattle.oc_omf.specs.Structures.{Group, Public, External, Piece, segment_read, group_read, base_read, public_read, external_read, communal_read, piece_read, subrecord_read}
 

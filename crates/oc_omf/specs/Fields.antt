@@ -2,17 +2,11 @@
 use Rattle.std.specs.Prelude.{ℕ, ◌+◌, Bool, ◌&&◌, nat_eq, if◌then◌else◌, ℤ, pos, ◌+ℤ◌, List, length, find, Option, Some, None}
 use Rattle.std.specs.Option.{option_map, option_and_then}
 use Rattle.oc_base.specs.declared.format.Word.TheVariants.{W32}
-use Rattle.oc_linking.specs.Rules.{Field}
-use Rattle.oc_linking.specs.Targets.{Target}
-use Rattle.oc_neutral.specs.Rows.{Row}
+use Rattle.oc_linking.specs.{Rules.{Field}, Targets.{Target}}
+use Rattle.oc_neutral.specs.{Rows.{Row}, Omf.Relocs.{ByFlat, ByTarget, BySelf, fixup_row}}
 use Rattle.oc_shows.specs.RowFields.{row_field, number_in}
-use Rattle.oc_neutral.specs.Omf.Relocs.{ByFlat, ByTarget, BySelf, fixup_row}
-use Rattle.oc_omf.specs.declared.constants.TheConstants.{OFFSET_32}
-use Rattle.oc_omf.specs.declared.structures.Method.{Method}
-use Rattle.oc_omf.specs.Entries.{Entry}
-use Rattle.oc_omf.specs.Sections.{size_at, contents_of}
-use Rattle.oc_omf.specs.Fixups.{Fixed, subrecords_upto, fixed_in, has_field}
-use Rattle.oc_omf.specs.Targets.{Meaning, meaning_of, target_of, is_flat, is_home}
+use Rattle.oc_omf.specs.{declared.constants.TheConstants.{OFFSET_32}, declared.structures.Method.{Method}, Entries.{Entry}, Sections.{size_at, contents_of}}
+use Rattle.oc_omf.specs.{Fixups.{Fixed, subrecords_upto, fixed_in, has_field}, Targets.{Meaning, meaning_of, target_of, is_flat, is_home}}
 
 -- the row of a segment-relative fixup by its frame and its target
 abbrev pub framed_row : Meaning → Fixed → Target → Method → Option Row

@@ -1,22 +1,13 @@
 -- Threads and fixups, each with its place; what is in force there is a function of what comes before (TIS OMF 1.1, "FIXUPP"; our profile).
 use Rattle.std.specs.Prelude.{ℕ, ◌+◌, Bool, true, false, ◌&&◌, nat_eq, nat_lt, if◌then◌else◌, List, [], ◌∷◌, ◌++◌, map, flat_map, fold, take, Option, Some, None, Result, Ok, Err}
-use Rattle.std.specs.List.{list_any, enumerate_from}
-use Rattle.std.specs.Option.{option_map_or, option_and_then, unwrap_or, is_some}
+use Rattle.std.specs.{List.{list_any, enumerate_from}, Option.{option_map_or, option_and_then, unwrap_or, is_some}}
 use Rattle.oc_linking.specs.Numbers.{or_else}
 use Rattle.oc_omf_records.specs.Blocks.{moved, copies_of}
-use Rattle.oc_omf.specs.declared.cut.Cut.{Cut}
-use Rattle.oc_omf.specs.declared.structures.Method.{Method}
-use Rattle.oc_omf.specs.declared.structures.Datum.{Datum}
+use Rattle.oc_omf.specs.{declared.cut.Cut.{Cut}, declared.structures.Method.{Method}, declared.structures.Datum.{Datum}, declared.structures.Fixup.{Fixup}}
+use Rattle.oc_omf.specs.{declared.structures.Subrecord.{Subrecord}, Cursor.{Read}, Structures.{Piece}, Entries.{Entry}, Tables.{Tables, tables_of}}
+use Rattle.oc_omf.specs.{Sections.{blocks_in}, Symbols.{agree}}
 use Rattle.oc_omf.specs.declared.structures.Datum.TheVariants as datum
-use Rattle.oc_omf.specs.declared.structures.Fixup.{Fixup}
-use Rattle.oc_omf.specs.declared.structures.Subrecord.{Subrecord}
 use Rattle.oc_omf.specs.declared.structures.Subrecord.TheVariants as subrecord
-use Rattle.oc_omf.specs.Cursor.{Read}
-use Rattle.oc_omf.specs.Structures.{Piece}
-use Rattle.oc_omf.specs.Entries.{Entry}
-use Rattle.oc_omf.specs.Tables.{Tables, tables_of}
-use Rattle.oc_omf.specs.Sections.{blocks_in}
-use Rattle.oc_omf.specs.Symbols.{agree}
 
 -- a thread or a fixup: the number of its entry, its place in the file, and what the entries before its own define
 pub record PlacedSubrecord : Type 0 where

@@ -1,15 +1,11 @@
 -- What the entries of a file must meet before their contents are looked at (TIS OMF 1.1, "Record Format"; our profile).
 use Rattle.std.specs.Prelude.{◌≡◌, ℕ, ◌≤◌, Bool, not, ◌&&◌, ◌||◌, nat_eq, nat_lt, List, [], ◌∷◌, length, take, slice_range, get_or, None}
 use Rattle.std.specs.List.{list_any, enumerate_from}
-use Rattle.oc_base.specs.declared.code.Code.{Code}
-use Rattle.oc_base.specs.declared.code.Code.TheVariants.{Short, BadChecksum, BadTable, RecordKind}
-use Rattle.oc_base.specs.declared.fault.Phase.TheVariants.{Header}
-use Rattle.oc_base.specs.declared.fault.Fault.{Fault}
+use Rattle.oc_base.specs.{declared.code.Code.{Code}, declared.code.Code.TheVariants.{Short, BadChecksum, BadTable, RecordKind}}
+use Rattle.oc_base.specs.{declared.fault.Phase.TheVariants.{Header}, declared.fault.Fault.{Fault}}
 use Rattle.oc_linking.specs.FirstFault.{Condition, Stage, stage_fault}
-use Rattle.oc_neutral.specs.KindRules.{has}
-use Rattle.oc_neutral.specs.TargetSections.{each_of}
-use Rattle.oc_omf_records.specs.declared.records.Entry.{Entry as Record}
-use Rattle.oc_omf_records.specs.NextEntry.{is_whole, is_summed, entry_of, end_of_entry}
+use Rattle.oc_neutral.specs.{KindRules.{has}, TargetSections.{each_of}}
+use Rattle.oc_omf_records.specs.{declared.records.Entry.{Entry as Record}, NextEntry.{is_whole, is_summed, entry_of, end_of_entry}}
 use Rattle.oc_omf.specs.declared.constants.TheConstants.{THEADR, COMENT, MODEND, EXTDEF, PUBDEF, LINNUM, LNAMES, SEGDEF, GRPDEF, FIXUPP, LEDATA, LIDATA, COMDEF, LEXTDEF, LPUBDEF, COMENT_WKEXT, COMENT_LZEXT}
 use Rattle.oc_omf.specs.Entries.{even_of, is_kind, places_in}
 

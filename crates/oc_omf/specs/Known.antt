@@ -1,16 +1,10 @@
 -- What a reader keeps of the entries before one, and of what is in one (our profile).
-use Rattle.std.specs.Prelude.{◌≡◌, ℕ, Bool, ◌&&◌, nat_eq, if◌then◌else◌, List, map, slice_get, Option, Some}
-use Rattle.std.specs.Option.{option_flatten}
+use Rattle.std.specs.{Prelude.{◌≡◌, ℕ, Bool, ◌&&◌, nat_eq, if◌then◌else◌, List, map, slice_get, Option, Some}, Option.{option_flatten}}
 use denote.Ref.{Bor}
-use Rattle.oc_omf_records.specs.Blocks.{Blocks, none, content}
-use Rattle.oc_omf_records.specs.Shown.{shown}
-use Rattle.oc_omf.specs.declared.data.Data.{Data}
+use Rattle.oc_omf_records.specs.{Blocks.{Blocks, none, content}, Shown.{shown}}
+use Rattle.oc_omf.specs.{declared.data.Data.{Data}, declared.structures.Method.{Method}, declared.structures.Thread.{Thread}}
+use Rattle.oc_omf.specs.{declared.threads.Threads.{Threads}, Fixups.{PlacedSubrecord, thread_after}, Symbols.{agree}}
 use Rattle.oc_omf.specs.declared.data.Data.TheVariants as data_
-use Rattle.oc_omf.specs.declared.structures.Method.{Method}
-use Rattle.oc_omf.specs.declared.structures.Thread.{Thread}
-use Rattle.oc_omf.specs.declared.threads.Threads.{Threads}
-use Rattle.oc_omf.specs.Fixups.{PlacedSubrecord, thread_after}
-use Rattle.oc_omf.specs.Symbols.{agree}
 
 -- the names that slices hold
 abbrev pub names_of : List (Bor (List ℕ)) → List (List ℕ)

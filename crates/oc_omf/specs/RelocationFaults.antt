@@ -1,31 +1,18 @@
 -- What threads and fixups must meet (TIS OMF 1.1, "FIXUPP"; our profile).
 use Rattle.std.specs.Prelude.{ℕ, Bool, true, false, not, nat_eq, if◌then◌else◌, List, [], ◌∷◌, ◌++◌, length, map, take, Option, Result, Ok, Err}
-use Rattle.std.specs.List.{list_any, enumerate_from}
-use Rattle.std.specs.Option.{option_map_or, is_some}
-use Rattle.oc_base.specs.declared.code.Code.{Code}
-use Rattle.oc_base.specs.declared.code.Code.TheVariants.{BadTable, RelocKind, BadOffset, BadTarget, TargetKind, Overlap}
-use Rattle.oc_base.specs.declared.fault.Phase.TheVariants as phase
+use Rattle.std.specs.{List.{list_any, enumerate_from}, Option.{option_map_or, is_some}}
+use Rattle.oc_base.specs.{declared.code.Code.{Code}, declared.code.Code.TheVariants.{BadTable, RelocKind, BadOffset, BadTarget, TargetKind, Overlap}}
 use Rattle.oc_base.specs.declared.fault.Fault.{Fault}
-use Rattle.oc_linking.specs.declared.terms.Keep.{Keep}
-use Rattle.oc_linking.specs.Keeping.{keeps}
-use Rattle.oc_linking.specs.FirstFault.{Condition, Stage}
-use Rattle.oc_linking.specs.Targets.{Target}
+use Rattle.oc_base.specs.declared.fault.Phase.TheVariants as phase
+use Rattle.oc_linking.specs.{declared.terms.Keep.{Keep}, Keeping.{keeps}, FirstFault.{Condition, Stage}, Targets.{Target}}
 use Rattle.oc_neutral.specs.TargetSections.{each_of}
-use Rattle.oc_omf.specs.declared.constants.TheConstants.{OFFSET_32}
-use Rattle.oc_omf.specs.declared.cut.Cut.{Cut}
-use Rattle.oc_omf.specs.declared.structures.Segment.{Segment}
-use Rattle.oc_omf.specs.declared.structures.Method.{Method}
-use Rattle.oc_omf.specs.declared.structures.Datum.{Datum}
-use Rattle.oc_omf.specs.declared.structures.Datum.TheVariants as datum
-use Rattle.oc_omf.specs.declared.structures.Subrecord.{Subrecord}
-use Rattle.oc_omf.specs.declared.structures.Subrecord.TheVariants as subrecord
-use Rattle.oc_omf.specs.Structures.{Piece}
-use Rattle.oc_omf.specs.Entries.{Entry}
-use Rattle.oc_omf.specs.Tables.{Tables, indexed, is_there}
-use Rattle.oc_omf.specs.Sections.{segment_kind}
-use Rattle.oc_omf.specs.Fixups.{PlacedSubrecord, subrecords_by, subrecords_upto, Fixed, fixed_of, fixed_in, is_inside, meet}
-use Rattle.oc_omf.specs.Targets.{Meaning, meaning_of}
+use Rattle.oc_omf.specs.{declared.constants.TheConstants.{OFFSET_32}, declared.cut.Cut.{Cut}, declared.structures.Segment.{Segment}}
+use Rattle.oc_omf.specs.{declared.structures.Method.{Method}, declared.structures.Datum.{Datum}, declared.structures.Subrecord.{Subrecord}, Structures.{Piece}}
+use Rattle.oc_omf.specs.{Entries.{Entry}, Tables.{Tables, indexed, is_there}, Sections.{segment_kind}}
+use Rattle.oc_omf.specs.{Fixups.{PlacedSubrecord, subrecords_by, subrecords_upto, Fixed, fixed_of, fixed_in, is_inside, meet}, Targets.{Meaning, meaning_of}}
 use Rattle.oc_omf.specs.Fields.{aim_of, row_of}
+use Rattle.oc_omf.specs.declared.structures.Datum.TheVariants as datum
+use Rattle.oc_omf.specs.declared.structures.Subrecord.TheVariants as subrecord
 
 -- a fault of a thread or a fixup
 abbrev pub relocation_fault : PlacedSubrecord → Code → Fault

@@ -1,22 +1,10 @@
 -- OMF, as one record of functions of a file's bytes (TIS OMF 1.1; our profile).
 use Rattle.std.specs.Prelude.{ℕ, List, ◌∷◌, ◌++◌, Option}
-use Rattle.oc_base.specs.declared.format.Word.TheVariants.{W32}
-use Rattle.oc_base.specs.declared.format.Format.TheVariants.{Omf}
-use Rattle.oc_base.specs.declared.fault.Fault.{Fault}
-use Rattle.oc_linking.specs.declared.terms.Keep.{Keep}
-use Rattle.oc_linking.specs.FirstFault.{Stage, first_fault}
-use Rattle.oc_linking.specs.Rules.{Rules}
-use Rattle.oc_neutral.specs.Alignments.{output_align, common_align}
-use Rattle.oc_neutral.specs.Dialects.{Dialect, IsDialect}
-use Rattle.oc_omf.specs.Entries.{Entry, entries_in}
-use Rattle.oc_omf.specs.Tables.{tables_of}
-use Rattle.oc_omf.specs.Sections.{sections_in}
-use Rattle.oc_omf.specs.Symbols.{symbols_in}
-use Rattle.oc_omf.specs.Fields.{fields_in}
-use Rattle.oc_omf.specs.HeaderFaults.{header_stage}
-use Rattle.oc_omf.specs.SectionFaults.{section_stage}
-use Rattle.oc_omf.specs.SymbolFaults.{symbol_stages}
-use Rattle.oc_omf.specs.RelocationFaults.{relocation_stages}
+use Rattle.oc_base.specs.{declared.format.Word.TheVariants.{W32}, declared.format.Format.TheVariants.{Omf}, declared.fault.Fault.{Fault}}
+use Rattle.oc_linking.specs.{declared.terms.Keep.{Keep}, FirstFault.{Stage, first_fault}, Rules.{Rules}}
+use Rattle.oc_neutral.specs.{Alignments.{output_align, common_align}, Dialects.{Dialect, IsDialect}}
+use Rattle.oc_omf.specs.{Entries.{Entry, entries_in}, Tables.{tables_of}, Sections.{sections_in}, Symbols.{symbols_in}, Fields.{fields_in}}
+use Rattle.oc_omf.specs.{HeaderFaults.{header_stage}, SectionFaults.{section_stage}, SymbolFaults.{symbol_stages}, RelocationFaults.{relocation_stages}}
 
 -- what is judged of a file, stage by stage
 unfoldable pub stages_of : List ℕ → List Entry → Keep → List Stage

@@ -3,21 +3,14 @@ use Rattle.std.specs.Prelude.{ℕ, ◌+◌, Bool, true, false, not, ◌&&◌, �
 use Rattle.std.specs.List.{list_any, sum_by, enumerate_from}
 use Rattle.oc_base.specs.declared.code.Code.{Code}
 use Rattle.oc_base.specs.declared.code.Code.TheVariants.{BadName, BadTable, SectionKind, BadAlign, BadIndex, TooDeep, DataPastEnd, DataOverlap, LimitSection, LimitSum, LimitBytes}
-use Rattle.oc_base.specs.declared.fault.Phase.TheVariants as phase
 use Rattle.oc_base.specs.declared.fault.Fault.{Fault}
-use Rattle.oc_linking.specs.declared.terms.Kind.TheVariants.{Zero}
-use Rattle.oc_linking.specs.FirstFault.{Condition, Stage}
-use Rattle.oc_neutral.specs.KindRules.{same_kind}
-use Rattle.oc_neutral.specs.TargetSections.{each_of}
-use Rattle.oc_omf_records.specs.declared.faults.BlockFault.{BlockFault}
+use Rattle.oc_base.specs.declared.fault.Phase.TheVariants as phase
+use Rattle.oc_linking.specs.{declared.terms.Kind.TheVariants.{Zero}, FirstFault.{Condition, Stage}}
+use Rattle.oc_neutral.specs.{KindRules.{same_kind}, TargetSections.{each_of}}
+use Rattle.oc_omf_records.specs.{declared.faults.BlockFault.{BlockFault}, Blocks.{Blocks}}
 use Rattle.oc_omf_records.specs.declared.faults.BlockFault.TheVariants as block
-use Rattle.oc_omf_records.specs.Blocks.{Blocks}
-use Rattle.oc_omf.specs.declared.constants.TheConstants.{SEGMENT_INDEX}
-use Rattle.oc_omf.specs.declared.structures.Segment.{Segment}
-use Rattle.oc_omf.specs.Cursor.{Reading, Read}
-use Rattle.oc_omf.specs.Structures.{Group, Piece}
-use Rattle.oc_omf.specs.Entries.{Entry}
-use Rattle.oc_omf.specs.Tables.{Tables, tables_of, is_indexed}
+use Rattle.oc_omf.specs.{declared.constants.TheConstants.{SEGMENT_INDEX}, declared.structures.Segment.{Segment}, Cursor.{Reading, Read}}
+use Rattle.oc_omf.specs.{Structures.{Group, Piece}, Entries.{Entry}, Tables.{Tables, tables_of, is_indexed}}
 use Rattle.oc_omf.specs.Sections.{align_code, combination, is_use32, segment_size, size_at, piece_size, pieces_of, segment_kind}
 
 -- a fault of an entry, by its number and its place; and one that has another place

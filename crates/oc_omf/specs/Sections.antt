@@ -1,16 +1,10 @@
 -- Segments as sections (TIS OMF 1.1, "SEGDEF", "LEDATA" and "LIDATA"; our profile).
 use Rattle.std.specs.Prelude.{ℕ, ◌+◌, ◌^◌, Bool, nat_eq, nat_lt, if◌then◌else◌, List, [], ◌∷◌, ◌++◌, map, filter, fold, take, drop, replicate, get_or, None, Result, Ok, Err}
-use Rattle.std.specs.List.{list_any, enumerate_from}
-use Rattle.std.specs.Option.{option_map_or}
-use Rattle.oc_linking.specs.declared.terms.Kind.{Kind}
-use Rattle.oc_linking.specs.Parts.{Section}
-use Rattle.oc_neutral.specs.KindRules.{has}
-use Rattle.oc_neutral.specs.Omf.Kinds.{omf_kind, omf_tag}
-use Rattle.oc_omf_records.specs.declared.faults.BlockFault.{BlockFault}
-use Rattle.oc_omf_records.specs.Blocks.{Blocks, none, denotation, size_of}
-use Rattle.oc_omf.specs.declared.structures.Segment.{Segment}
-use Rattle.oc_omf.specs.Structures.{Piece, bits}
-use Rattle.oc_omf.specs.Tables.{Tables, indexed, name_at}
+use Rattle.std.specs.{List.{list_any, enumerate_from}, Option.{option_map_or}}
+use Rattle.oc_linking.specs.{declared.terms.Kind.{Kind}, Parts.{Section}}
+use Rattle.oc_neutral.specs.{KindRules.{has}, Omf.Kinds.{omf_kind, omf_tag}}
+use Rattle.oc_omf_records.specs.{declared.faults.BlockFault.{BlockFault}, Blocks.{Blocks, none, denotation, size_of}}
+use Rattle.oc_omf.specs.{declared.structures.Segment.{Segment}, Structures.{Piece, bits}, Tables.{Tables, indexed, name_at}}
 
 -- the code of the alignment
 abbrev pub align_code : Segment → ℕ

@@ -1,19 +1,12 @@
 -- The structures in the entries of an object module (TIS OMF 1.1, "Record Formats"): each is read from the contents of its entry, at a place in them.
 use Rattle.std.specs.Prelude.{ℕ, ◌+◌, ◌*◌, ◌/◌, ◌%◌, ◌^◌, Bool, false, nat_eq, nat_le, if◌then◌else◌, List, length, drop, Option, Some, None, Result, Ok}
 use Rattle.oc_neutral.specs.KindRules.{has}
-use Rattle.oc_omf_records.specs.declared.faults.BlockFault.{BlockFault}
-use Rattle.oc_omf_records.specs.Blocks.{Blocks, none, content}
-use Rattle.oc_omf_records.specs.BlockReading.{blocks_of}
-use Rattle.oc_omf.specs.declared.structures.Segment.{Segment}
-use Rattle.oc_omf.specs.declared.structures.PublicBase.{PublicBase}
-use Rattle.oc_omf.specs.declared.structures.Communal.{Communal}
-use Rattle.oc_omf.specs.declared.structures.Method.{Method}
-use Rattle.oc_omf.specs.declared.structures.Datum.{Datum}
-use Rattle.oc_omf.specs.declared.structures.DataHead.{DataHead}
+use Rattle.oc_omf_records.specs.{declared.faults.BlockFault.{BlockFault}, Blocks.{Blocks, none, content}, BlockReading.{blocks_of}}
+use Rattle.oc_omf.specs.{declared.structures.Segment.{Segment}, declared.structures.PublicBase.{PublicBase}, declared.structures.Communal.{Communal}}
+use Rattle.oc_omf.specs.{declared.structures.Method.{Method}, declared.structures.Datum.{Datum}, declared.structures.DataHead.{DataHead}}
+use Rattle.oc_omf.specs.{declared.structures.Subrecord.{Subrecord}, Cursor.{Reading, next, number_read, index_read, name_read, Read, each_read}}
 use Rattle.oc_omf.specs.declared.structures.Datum.TheVariants as datum
-use Rattle.oc_omf.specs.declared.structures.Subrecord.{Subrecord}
 use Rattle.oc_omf.specs.declared.structures.Subrecord.TheVariants as subrecord
-use Rattle.oc_omf.specs.Cursor.{Reading, next, number_read, index_read, name_read, Read, each_read}
 
 -- how many bytes an offset or a length has
 abbrev pub long_size : Bool → ℕ

@@ -1,23 +1,15 @@
 -- What symbols must meet (TIS OMF 1.1, "EXTDEF", "LEXTDEF", "PUBDEF", "LPUBDEF" and "COMDEF"; our profile).
 use Rattle.std.specs.Prelude.{ℕ, Bool, true, false, not, ◌&&◌, ◌||◌, nat_eq, nat_lt, bytes_eq, List, [], ◌∷◌, ◌++◌, length, take, map, get_or, Ok, Err}
-use Rattle.std.specs.List.{list_any, enumerate_from}
-use Rattle.std.specs.Option.{option_map_or}
+use Rattle.std.specs.{List.{list_any, enumerate_from}, Option.{option_map_or}}
 use Rattle.oc_base.specs.declared.code.Code.{Code}
 use Rattle.oc_base.specs.declared.code.Code.TheVariants.{BadName, BadIndex, BadTable, SymbolKind, SymbolPastEnd, BadCommon, BadSymbol, DuplicateName}
-use Rattle.oc_base.specs.declared.fault.Phase.TheVariants as phase
 use Rattle.oc_base.specs.declared.fault.Fault.{Fault}
+use Rattle.oc_base.specs.declared.fault.Phase.TheVariants as phase
 use Rattle.oc_linking.specs.FirstFault.{Condition, Stage}
-use Rattle.oc_omf.specs.declared.constants.TheConstants.{NEAR, MOST_SHORT_LENGTH}
-use Rattle.oc_omf.specs.declared.cut.Cut.{Cut}
+use Rattle.oc_omf.specs.{declared.constants.TheConstants.{NEAR, MOST_SHORT_LENGTH}, declared.cut.Cut.{Cut}, declared.structures.PublicBase.{PublicBase}}
+use Rattle.oc_omf.specs.{declared.structures.Communal.{Communal}, Cursor.{Read}, Structures.{Public, External, communal_width}, Entries.{Entry, all_read}}
+use Rattle.oc_omf.specs.{Tables.{Tables, tables_of}, Sections.{size_at}, Symbols.{same_symbol, public_mention, external_mention}}
 use Rattle.oc_omf.specs.declared.cut.Cut.TheVariants as cut
-use Rattle.oc_omf.specs.declared.structures.PublicBase.{PublicBase}
-use Rattle.oc_omf.specs.declared.structures.Communal.{Communal}
-use Rattle.oc_omf.specs.Cursor.{Read}
-use Rattle.oc_omf.specs.Structures.{Public, External, communal_width}
-use Rattle.oc_omf.specs.Entries.{Entry, all_read}
-use Rattle.oc_omf.specs.Tables.{Tables, tables_of}
-use Rattle.oc_omf.specs.Sections.{size_at}
-use Rattle.oc_omf.specs.Symbols.{same_symbol, public_mention, external_mention}
 
 -- an entry with its number, what the entries before it define, and what all do
 pub record EntryContext : Type 0 where

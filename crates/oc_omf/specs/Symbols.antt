@@ -1,18 +1,11 @@
 -- Symbols (TIS OMF 1.1, "EXTDEF", "LEXTDEF", "PUBDEF", "LPUBDEF" and "COMDEF"; our profile).
 use Rattle.std.specs.Prelude.{ℕ, ◌-◌, Bool, true, false, not, ◌&&◌, bytes_eq, if◌then◌else◌, List, [], ◌∷◌, ◌++◌, map, flat_map, find, fold, Option}
-use Rattle.std.specs.List.{list_any, enumerate_from, position_or_len}
-use Rattle.std.specs.Option.{option_map, option_map_or, option_and_then, is_some}
-use Rattle.oc_linking.specs.declared.terms.Mark.TheVariants.{NoType}
-use Rattle.oc_linking.specs.declared.terms.Visibility.TheVariants.{Default}
+use Rattle.std.specs.{List.{list_any, enumerate_from, position_or_len}, Option.{option_map, option_map_or, option_and_then, is_some}}
+use Rattle.oc_linking.specs.{declared.terms.Mark.TheVariants.{NoType}, declared.terms.Visibility.TheVariants.{Default}, declared.terms.Binding.{Binding}}
+use Rattle.oc_linking.specs.{declared.terms.Binding.TheVariants.{Local, Global, Undefined, Common}, Parts.{Symbol}}
 use Rattle.oc_linking.specs.declared.terms.Value.TheVariants as value
-use Rattle.oc_linking.specs.declared.terms.Binding.{Binding}
-use Rattle.oc_linking.specs.declared.terms.Binding.TheVariants.{Local, Global, Undefined, Common}
-use Rattle.oc_linking.specs.Parts.{Symbol}
 use Rattle.oc_neutral.specs.Powers.{natural_align}
-use Rattle.oc_omf.specs.declared.structures.Communal.{Communal}
-use Rattle.oc_omf.specs.Structures.{Public, External}
-use Rattle.oc_omf.specs.Entries.{Entry, all_read}
-use Rattle.oc_omf.specs.Tables.{Tables, tables_of}
+use Rattle.oc_omf.specs.{declared.structures.Communal.{Communal}, Structures.{Public, External}, Entries.{Entry, all_read}, Tables.{Tables, tables_of}}
 
 -- a name that is mentioned, of this module alone or not
 pub record Mention : Type 0 where

@@ -2,9 +2,7 @@
 -- "Indexed References"; our profile).
 use Rattle.std.specs.Prelude.{ℕ, ◌-◌, Bool, true, ◌&&◌, nat_eq, nat_le, if◌then◌else◌, List, [], length, flat_map, Option, None, slice_get}
 use Rattle.std.specs.Option.{unwrap_or}
-use Rattle.oc_omf.specs.declared.structures.Segment.{Segment}
-use Rattle.oc_omf.specs.declared.structures.Method.{Method}
-use Rattle.oc_omf.specs.Structures.{Group, Public, External, Piece}
+use Rattle.oc_omf.specs.{declared.structures.Segment.{Segment}, declared.structures.Method.{Method}, Structures.{Group, Public, External, Piece}}
 use Rattle.oc_omf.specs.Entries.{Entry, all_read}
 
 -- names, segments, groups and externals, each numbered from 1; definitions and data in the order of the file

@@ -1,14 +1,8 @@
 -- What frames and targets name (TIS OMF 1.1, "FIXUPP"; our profile).
 use Rattle.std.specs.Prelude.{ℕ, ◌-◌, Bool, false, ◌&&◌, ◌||◌, nat_eq, bytes_eq, if◌then◌else◌, List, codes, Option, Some, None}
 use Rattle.std.specs.Option.{option_map, option_map_or, option_and_then}
-use Rattle.oc_linking.specs.Parts.{Symbol}
-use Rattle.oc_linking.specs.Values.{numbered}
-use Rattle.oc_linking.specs.Rules.{Named, Symbolic, Sectional}
-use Rattle.oc_linking.specs.Targets.{Target, symbol_target}
-use Rattle.oc_omf.specs.declared.structures.Method.{Method}
-use Rattle.oc_omf.specs.Structures.{Group, Piece}
-use Rattle.oc_omf.specs.Entries.{Entry}
-use Rattle.oc_omf.specs.Tables.{Tables, tables_of, indexed, name_at}
+use Rattle.oc_linking.specs.{Parts.{Symbol}, Values.{numbered}, Rules.{Named, Symbolic, Sectional}, Targets.{Target, symbol_target}}
+use Rattle.oc_omf.specs.{declared.structures.Method.{Method}, Structures.{Group, Piece}, Entries.{Entry}, Tables.{Tables, tables_of, indexed, name_at}}
 use Rattle.oc_omf.specs.Symbols.{Mention, external_mention, number_of, mentions_in, symbols_in}
 
 -- what indexes mean: what the entries of a file define, and the numbers and bindings of its symbols

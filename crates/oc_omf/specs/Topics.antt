@@ -1,12 +1,10 @@
 -- What an entry is about, by its type (TIS OMF 1.1, "Record Formats").
 use Rattle.std.specs.Prelude.{ℕ, Bool, ◌||◌, if◌then◌else◌, List, [], Ok, Err}
 use Rattle.oc_omf.specs.declared.constants.TheConstants.{MODEND, EXTDEF, PUBDEF, LNAMES, SEGDEF, GRPDEF, FIXUPP, LEDATA, LIDATA, COMDEF, LEXTDEF, LPUBDEF}
-use Rattle.oc_omf.specs.declared.structures.PublicBase.{PublicBase}
-use Rattle.oc_omf.specs.declared.topics.Topic.{Topic}
-use Rattle.oc_omf.specs.declared.topics.Topic.TheVariants as topic
-use Rattle.oc_omf.specs.Cursor.{Reading, Read, name_read, each_read}
+use Rattle.oc_omf.specs.{declared.structures.PublicBase.{PublicBase}, declared.topics.Topic.{Topic}, Cursor.{Reading, Read, name_read, each_read}}
 use Rattle.oc_omf.specs.Structures.{Public, segment_read, group_read, base_read, public_read, external_read, communal_read, piece_read, subrecord_read}
 use Rattle.oc_omf.specs.Entries.{Entry, is_kind, says_nothing, in_file, whole}
+use Rattle.oc_omf.specs.declared.topics.Topic.TheVariants as topic
 
 -- of data and what comes after them, by the type
 abbrev pub data_topic : ℕ → Topic

@@ -1,33 +1,21 @@
 -- What the relocations of the canonical file are against: a section, or an external.
 use Rattle.std.proofs.Common.{◌≡◌, ℕ, ◌<◌, ◌⊎◌, inl, inr, true, false, cond, Some, None, refl, sym, ◌∙◌, ap, subst, arith}
-use Rattle.std.specs.Prelude.{slice_get}
-use Rattle.std.specs.Option.{option_and_then}
-use Rattle.std.proofs.lemmas.Bool.{true≢false}
-use Rattle.std.proofs.lemmas.Option.{slice_get_within}
+use Rattle.std.specs.{Prelude.{slice_get}, Option.{option_and_then}}
+use Rattle.std.proofs.lemmas.{Bool.{true≢false}, Option.{slice_get_within}}
 use Rattle.oc_base.specs.declared.format.Word.TheVariants.{W32}
-use Rattle.oc_linking.specs.declared.terms.Less.{Less}
+use Rattle.oc_linking.specs.{declared.terms.Less.{Less}, declared.terms.Binding.{Binding}}
+use Rattle.oc_linking.specs.{declared.terms.Binding.TheVariants.{Local, Global, Undefined, Common, Weak}, Parts.{is_local}}
 use Rattle.oc_linking.specs.declared.terms.Value.TheVariants as value
-use Rattle.oc_linking.specs.declared.terms.Binding.{Binding}
-use Rattle.oc_linking.specs.declared.terms.Binding.TheVariants.{Local, Global, Undefined, Common, Weak}
-use Rattle.oc_linking.specs.Parts.{is_local}
-use Rattle.oc_neutral.specs.declared.section.Section.{Section}
-use Rattle.oc_neutral.specs.declared.symbol.Symbol.{Symbol}
-use Rattle.oc_neutral.specs.declared.reloc.Reloc.{Reloc}
-use Rattle.oc_neutral.specs.declared.reloc.Target.{Target}
-use Rattle.oc_neutral.specs.declared.reloc.Target.TheVariants as target
-use Rattle.oc_neutral.specs.Bindings.{is_external}
-use Rattle.oc_neutral.specs.Invariants.{IsSymbol, IsBinding, IsThere}
-use Rattle.oc_neutral.specs.KeySymbols.{global_place}
-use Rattle.oc_shows.specs.Manners.{omf_manner}
-use Rattle.oc_neutral.specs.Normal.{Place, takes_section, at_section}
-use Rattle.oc_neutral.specs.Objects.{Object, reloc_at}
+use Rattle.oc_neutral.specs.{declared.section.Section.{Section}, declared.symbol.Symbol.{Symbol}, declared.reloc.Reloc.{Reloc}, declared.reloc.Target.{Target}}
+use Rattle.oc_neutral.specs.{Bindings.{is_external}, Invariants.{IsSymbol, IsBinding, IsThere}, KeySymbols.{global_place}}
+use Rattle.oc_neutral.specs.{Normal.{Place, takes_section, at_section}, Objects.{Object, reloc_at}}
 use Rattle.oc_neutral.specs.Omf.Relocs.{FixupFrame, ByFlat, ByTarget, BySelf, fixup_row}
+use Rattle.oc_neutral.specs.declared.reloc.Target.TheVariants as target
+use Rattle.oc_shows.specs.{Manners.{omf_manner}, Seen.{place_at, target_place, section_place}}
 use Rattle.oc_neutral.specs.Rows as rows
-use Rattle.oc_shows.specs.Seen.{place_at, target_place, section_place}
 use Rattle.oc_neutral.proofs.Positions.{each_at, there_at}
 use Rattle.oc_omf_file.specs.Fixups.{written_reloc, target_method}
-use Rattle.oc_omf_file.proofs.CodedLaws.{IsForOmf, framed, meets, row_takes}
-use Rattle.oc_omf_file.proofs.LineLaws.{number_low}
+use Rattle.oc_omf_file.proofs.{CodedLaws.{IsForOmf, framed, meets, row_takes}, LineLaws.{number_low}}
 
 -- a relocation is against a section, or against an external
 pub record ForSection (n : Object) (r : Reloc) : Type 0 where

@@ -1,25 +1,17 @@
 -- What stands before each entry of the canonical file.
 use Rattle.std.proofs.Common.{◌≡◌, ℕ, zero, suc, ◌+◌, ◌<◌, ◌≤◌, ◌⊎◌, inl, inr, Bool, true, false, List, [], ◌∷◌, ◌++◌, length, map, take, Some, refl, sym, ◌∙◌, ap, subst, arith, append-nil, append_assoc, length-append}
-use Rattle.std.specs.Prelude.{flat_map, slice_get, nat_eq, if◌then◌else◌}
-use Rattle.std.specs.List.{enumerate_from}
-use Rattle.std.proofs.lemmas.Grind.{flat_map-append}
-use Rattle.std.proofs.lemmas.List.{map-append}
-use Rattle.std.proofs.lemmas.Option.{none-some, same_Some}
-use Rattle.oc_linking.specs.declared.terms.Value.{Value}
-use Rattle.oc_linking.specs.declared.terms.Binding.{Binding}
+use Rattle.std.specs.{Prelude.{flat_map, slice_get, nat_eq, if◌then◌else◌}, List.{enumerate_from}}
+use Rattle.std.proofs.lemmas.{Grind.{flat_map-append}, List.{map-append}, Option.{none-some, same_Some}}
+use Rattle.oc_linking.specs.{declared.terms.Value.{Value}, declared.terms.Binding.{Binding}}
 use Rattle.oc_linking.specs.declared.terms.Binding.TheVariants.{Local, Global, Undefined, Common, Weak}
-use Rattle.oc_neutral.specs.declared.section.Section.{Section}
-use Rattle.oc_neutral.specs.declared.symbol.Symbol.{Symbol}
-use Rattle.oc_neutral.specs.Objects.{Object}
+use Rattle.oc_neutral.specs.{declared.section.Section.{Section}, declared.symbol.Symbol.{Symbol}, Objects.{Object}}
 use Rattle.oc_shelf.proofs.WritingLaws.MemberLemmas.{each_append, each_filter_map, each_enumerated}
 use Rattle.oc_omf.specs.declared.structures.Segment as read
-use Rattle.oc_omf.specs.Structures.{Group, Public, External}
-use Rattle.oc_omf.specs.Tables.{Tables}
-use Rattle.oc_omf_file.specs.Names.{names_of, names_size}
-use Rattle.oc_omf_file.specs.Pieces.{offsets_of, pieces_of, fields_between}
+use Rattle.oc_omf.specs.{Structures.{Group, Public, External}, Tables.{Tables}}
+use Rattle.oc_omf_file.specs.{Names.{names_of, names_size}, Pieces.{offsets_of, pieces_of, fields_between}}
 use Rattle.oc_omf_file.specs.Outputs.{Output, external_by, communal_by, public_by, external_output, communal_output, public_output, indexed_outputs, symbol_outputs, piece_outputs, data_outputs, segment_output, outputs_of}
-use Rattle.oc_omf_file.specs.Outputs as output
 use Rattle.oc_omf_file.specs.Canonical.{segment_of}
+use Rattle.oc_omf_file.specs.Outputs as output
 use Rattle.oc_omf_file.proofs.GivenLaws.{names_by, segments_by, groups_by, publics_by, externals_by, pieces_by, given}
 use Rattle.oc_omf_file.proofs.PieceLaws.{IsWhole, Follow, AreApart, pieces_follow}
 

@@ -1,36 +1,20 @@
 -- What OMF can say of an object that is ready for it: its sections, and the rows and the fields of its relocations.
 use Rattle.std.proofs.Common.{◌≡◌, ℕ, suc, ◌+◌, ◌<◌, ◌≤◌, Bool, true, false, cond, eqb, List, [], ◌∷◌, length, Some, None, refl, sym, ◌∙◌, ap, subst, inl, inr, arith}
 use Rattle.std.specs.Prelude.{slice_get}
-use Rattle.std.proofs.lemmas.Bool.{eqb-true, cases_lt}
-use Rattle.std.proofs.lemmas.Option.{none-some, same_Some}
+use Rattle.std.proofs.lemmas.{Bool.{eqb-true, cases_lt}, Option.{none-some, same_Some}}
 use Rattle.oc_base.specs.declared.format.Format.TheVariants.{Omf}
-use Rattle.oc_linking.specs.declared.terms.Patch.{Patch}
-use Rattle.oc_linking.specs.declared.terms.Less.{Less}
+use Rattle.oc_linking.specs.{declared.terms.Patch.{Patch}, declared.terms.Less.{Less}, Fits.{bytes_of}, Shows.{Apart}}
 use Rattle.oc_linking.specs.declared.terms.Less.TheVariants as less
-use Rattle.oc_linking.specs.Fits.{bytes_of}
-use Rattle.oc_linking.specs.Shows.{Apart}
-use Rattle.oc_chains.specs.declared.field.Field.{Field}
-use Rattle.oc_chains.specs.Lists.{list_of}
-use Rattle.oc_neutral.specs.declared.section.Section.{Section}
-use Rattle.oc_neutral.specs.declared.reloc.Reloc.{Reloc}
-use Rattle.oc_target.specs.Fitted.{IsFitted}
-use Rattle.oc_neutral.specs.Invariants.{IsObject}
-use Rattle.oc_target.specs.Meets.{MeetsReloc}
-use Rattle.oc_neutral.specs.Objects.{Object, reloc_at, reloc_among}
-use Rattle.oc_target.specs.OmfMeets.{MeetsOmf, OmfSection, OmfReloc}
-use Rattle.oc_neutral.specs.Omf.Relocs.{FixupFrame, ByFlat, ByTarget, BySelf, fixup_row}
+use Rattle.oc_chains.specs.{declared.field.Field.{Field}, Lists.{list_of}}
+use Rattle.oc_neutral.specs.{declared.section.Section.{Section}, declared.reloc.Reloc.{Reloc}, Invariants.{IsObject}, Objects.{Object, reloc_at, reloc_among}}
+use Rattle.oc_neutral.specs.{Omf.Relocs.{FixupFrame, ByFlat, ByTarget, BySelf, fixup_row}, Rows.{Row, taken_of}}
+use Rattle.oc_target.specs.{Fitted.{IsFitted}, Meets.{MeetsReloc}, OmfMeets.{MeetsOmf, OmfSection, OmfReloc}}
 use Rattle.oc_neutral.specs.Rows as rows
-use Rattle.oc_neutral.specs.Rows.{Row, taken_of}
-use Rattle.oc_neutral.proofs.Mapped.{from_mapped}
+use Rattle.oc_neutral.proofs.{Mapped.{from_mapped}, Positions.{each_at, there_at}, Standing.{ends_by, wide_in}}
 use Rattle.oc_target.proofs.MeetsOmf.{meets_omf}
-use Rattle.oc_neutral.proofs.Positions.{each_at, there_at}
-use Rattle.oc_neutral.proofs.Standing.{ends_by, wide_in}
 use Rattle.oc_shelf.proofs.WritingLaws.MemberLemmas.{of_map}
-use Rattle.oc_omf_file.specs.Names.{names_of}
-use Rattle.oc_omf_file.specs.Pieces.{offsets_of}
-use Rattle.oc_omf_file.specs.Fixups.{row_by, field_patch, field_patches}
-use Rattle.oc_omf_file.proofs.NameLaws.{IsClassed, IsShort, names_bounded, names_short}
-use Rattle.oc_omf_file.proofs.PieceLaws.{AreApart}
+use Rattle.oc_omf_file.specs.{Names.{names_of}, Pieces.{offsets_of}, Fixups.{row_by, field_patch, field_patches}}
+use Rattle.oc_omf_file.proofs.{NameLaws.{IsClassed, IsShort, names_bounded, names_short}, PieceLaws.{AreApart}}
 use Rattle.oc_shows.proofs.FoundLaws.{found_in, empty_past}
 
 -- an object that is ready for OMF, and what it meets

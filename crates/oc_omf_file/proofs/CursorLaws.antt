@@ -6,8 +6,7 @@ use Rattle.oc_base.specs.Numbers.{number_at, bytes_of_number}
 use Rattle.oc_base.proofs.NumberLaws.{length-bytes_of_number}
 use Rattle.oc_shelf.specs.Writing.Parts.{Stands}
 use Rattle.oc_shelf.proofs.WritingLaws.StandingLemmas.{stands_front, stands_back, stands_inside, stands_take, stands_number, number_within}
-use Rattle.oc_omf.specs.Cursor.{Reading, next, number_read, index_read, name_read, Read, each_upto, each_read}
-use Rattle.oc_omf.specs.Bytes.{index_bytes, name_bytes}
+use Rattle.oc_omf.specs.{Cursor.{Reading, next, number_read, index_read, name_read, Read, each_upto, each_read}, Bytes.{index_bytes, name_bytes}}
 
 -- where those bytes stand, that is read, up to their end
 abbrev pub Reads : {X : Type 0} → (List ℕ → ℕ → Reading X) → List ℕ → X → Type 0

@@ -1,54 +1,28 @@
 -- The fields of the canonical file are the relocations of the object that is seen.
 use Rattle.std.proofs.Common.{◌≡◌, ℕ, ◌+◌, ◌%◌, Bool, true, false, ◌&&◌, ◌||◌, cond, nat_eq, ℤ, List, [], ◌∷◌, length, replicate, Option, Some, None, Ok, refl, sym, ◌∙◌, ap, arith}
-use Rattle.std.specs.Prelude.{◌+ℤ◌, slice_get, pos, find}
-use Rattle.std.specs.List.{list_any}
-use Rattle.std.specs.Option.{option_map, option_map_or, option_and_then}
-use Rattle.std.proofs.lemmas.Bool.{true≢false, eqb-true, eq-eqb}
-use Rattle.std.proofs.lemmas.Int.{ints}
-use Rattle.std.proofs.lemmas.Option.{none-some, same_Some}
-use Rattle.oc_base.specs.declared.format.Word.TheVariants.{W32}
-use Rattle.oc_base.specs.declared.format.Format.TheVariants.{Omf}
-use Rattle.oc_base.specs.Formats.{word_for}
-use Rattle.oc_base.specs.Numbers.{number_at}
-use Rattle.oc_linking.specs.declared.terms.Width.{Width}
-use Rattle.oc_linking.specs.declared.terms.Width.TheVariants.{Four}
-use Rattle.oc_linking.specs.declared.terms.Check.{Check}
-use Rattle.oc_linking.specs.declared.terms.Base.{Base}
-use Rattle.oc_linking.specs.declared.terms.Hint.TheVariants.{Plain}
-use Rattle.oc_linking.specs.declared.terms.Less.{Less}
-use Rattle.oc_linking.specs.Fits.{bytes_of, span}
+use Rattle.std.specs.{Prelude.{◌+ℤ◌, slice_get, pos, find}, List.{list_any}, Option.{option_map, option_map_or, option_and_then}}
+use Rattle.std.proofs.lemmas.{Bool.{true≢false, eqb-true, eq-eqb}, Int.{ints}, Option.{none-some, same_Some}}
+use Rattle.oc_base.specs.{declared.format.Word.TheVariants.{W32}, declared.format.Format.TheVariants.{Omf}, Formats.{word_for}, Numbers.{number_at}}
+use Rattle.oc_linking.specs.{declared.terms.Width.{Width}, declared.terms.Width.TheVariants.{Four}, declared.terms.Check.{Check}, declared.terms.Base.{Base}}
+use Rattle.oc_linking.specs.{declared.terms.Hint.TheVariants.{Plain}, declared.terms.Less.{Less}, Fits.{bytes_of, span}}
 use Rattle.oc_linking.proofs.Storing.{field_holds}
-use Rattle.oc_algebra.specs.Residues.{reduced_number}
-use Rattle.oc_algebra.specs.Fields.{extended, to_field_of, from_field_of}
+use Rattle.oc_algebra.specs.{Residues.{reduced_number}, Fields.{extended, to_field_of, from_field_of}}
 use Rattle.oc_algebra.proofs.Laws.{reduced_reduced}
-use Rattle.oc_neutral.specs.declared.section.Section.{Section}
-use Rattle.oc_neutral.specs.declared.reloc.Reloc.{Reloc}
-use Rattle.oc_neutral.specs.declared.reloc.Target.{Target}
-use Rattle.oc_neutral.specs.Building.{is_zero}
-use Rattle.oc_shows.specs.Manners.{omf_manner}
-use Rattle.oc_target.specs.Meets.{MeetsReloc}
-use Rattle.oc_neutral.specs.Normal.{Place, at_section}
-use Rattle.oc_neutral.specs.Objects.{Object, reloc_at}
-use Rattle.oc_neutral.specs.Omf.Relocs.{FixupFrame, ByFlat, ByTarget, BySelf, fixup_row}
-use Rattle.oc_shows.specs.RowFields.{number_in, row_field}
-use Rattle.oc_shows.specs.RowValues.{row_reloc}
-use Rattle.oc_neutral.specs.Rows as rows
+use Rattle.oc_neutral.specs.{declared.section.Section.{Section}, declared.reloc.Reloc.{Reloc}, declared.reloc.Target.{Target}, Building.{is_zero}}
+use Rattle.oc_neutral.specs.{Normal.{Place, at_section}, Objects.{Object, reloc_at}, Omf.Relocs.{FixupFrame, ByFlat, ByTarget, BySelf, fixup_row}}
 use Rattle.oc_neutral.specs.Rows.{Row, shift_of}
-use Rattle.oc_shows.specs.Seen.{section_place, seen_reloc, seen_target}
+use Rattle.oc_shows.specs.{Manners.{omf_manner}, RowFields.{number_in, row_field}, RowValues.{row_reloc}, Seen.{section_place, seen_reloc, seen_target}}
+use Rattle.oc_target.specs.Meets.{MeetsReloc}
+use Rattle.oc_neutral.specs.Rows as rows
 use Rattle.oc_target.proofs.MeetsRelocs.{no_error}
 use Rattle.oc_neutral.proofs.ShiftLemmas.{four_bytes_hold}
-use Rattle.oc_omf.specs.Sections.{size_at, contents_of}
-use Rattle.oc_omf.specs.Fixups.{Fixed, fixed_from, has_field, subrecords_upto, is_of_segment, field_offsets}
-use Rattle.oc_omf.specs.Targets.{target_of}
-use Rattle.oc_omf.specs.Fields.{row_of, aim_of, field_of, field_by, relocates}
+use Rattle.oc_omf.specs.{Sections.{size_at, contents_of}, Fixups.{Fixed, fixed_from, has_field, subrecords_upto, is_of_segment, field_offsets}}
+use Rattle.oc_omf.specs.{Targets.{target_of}, Fields.{row_of, aim_of, field_of, field_by, relocates}}
 use Rattle.oc_omf_file.specs.Fixups.{written_reloc, row_by, number_or, number_by, field_number, field_patch, field_patches, raw_of, target_method}
-use Rattle.oc_omf_file.proofs.ListLemmas.{find_fails, find_there}
-use Rattle.oc_omf_file.proofs.BehindLaws.{made_tables}
+use Rattle.oc_omf_file.proofs.{ListLemmas.{find_fails, find_there}, BehindLaws.{made_tables}}
 use Rattle.oc_omf_file.proofs.CodedLaws.{IsForOmf, omf_reloc, meets, framed, row_is, row_takes, width_is, inside, apart_patches}
-use Rattle.oc_omf_file.proofs.SectionLaws.{made_contents, has_bytes, contents_made, size_made}
-use Rattle.oc_omf_file.proofs.SeenLaws.{shown}
-use Rattle.oc_omf_file.proofs.FixedLaws.{entries, IsFixed, has_field as field_is, reloc_of, fixups_are, fixup_there}
-use Rattle.oc_omf_file.proofs.TargetLaws.{meant, row_read, IsAimed}
+use Rattle.oc_omf_file.proofs.{SectionLaws.{made_contents, has_bytes, contents_made, size_made}, SeenLaws.{shown}}
+use Rattle.oc_omf_file.proofs.{FixedLaws.{entries, IsFixed, has_field as field_is, reloc_of, fixups_are, fixup_there}, TargetLaws.{meant, row_read, IsAimed}}
 use Rattle.oc_shows.proofs.FoundLaws.{holds_addend}
 
 -- a number of four bytes is held

@@ -1,36 +1,21 @@
 -- The fixups of the canonical file, each with the data before it.
 use Rattle.std.proofs.Common.{◌≡◌, ℕ, ◌+◌, ◌-◌, ◌*◌, ◌<◌, ◌≤◌, true, false, ◌&&◌, nat_lt, nat_le, nat_eq, if◌then◌else◌, List, [], ◌∷◌, ◌++◌, length, map, take, Some, None, Ok, refl, sym, ◌∙◌, ap, subst, arith}
-use Rattle.std.specs.Prelude.{flat_map, slice_get, slice_range}
-use Rattle.std.specs.List.{enumerate_from}
-use Rattle.std.specs.Option.{option_map, unwrap_or}
-use Rattle.std.proofs.lemmas.Bool.Decides.{nat_tests}
-use Rattle.std.proofs.lemmas.Grind.{flat_map-append}
-use Rattle.std.proofs.lemmas.Option.{slice_get_within}
-use Rattle.oc_chains.specs.declared.field.Field.{Field}
-use Rattle.oc_chains.specs.Lists.{list_of}
-use Rattle.oc_neutral.specs.declared.section.Section.{Section}
-use Rattle.oc_neutral.specs.declared.reloc.Reloc.{Reloc}
-use Rattle.oc_neutral.specs.Objects.{Object, reloc_at}
-use Rattle.oc_neutral.specs.Omf.Relocs.{ByTarget}
+use Rattle.std.specs.{Prelude.{flat_map, slice_get, slice_range}, List.{enumerate_from}, Option.{option_map, unwrap_or}}
+use Rattle.std.proofs.lemmas.{Bool.Decides.{nat_tests}, Grind.{flat_map-append}, Option.{slice_get_within}}
+use Rattle.oc_chains.specs.{declared.field.Field.{Field}, Lists.{list_of}}
+use Rattle.oc_neutral.specs.{declared.section.Section.{Section}, declared.reloc.Reloc.{Reloc}, Objects.{Object, reloc_at}, Omf.Relocs.{ByTarget}}
 use Rattle.oc_omf_records.specs.Blocks.{found, in_each}
 use Rattle.oc_shelf.proofs.WritingLaws.MemberLemmas.{each_flat_map, member_enumerated, member_flat_map, member_map, of_map, of_enumerated, member_filter}
-use Rattle.oc_omf.specs.declared.structures.Subrecord.{Subrecord}
-use Rattle.oc_omf.specs.declared.structures.Subrecord.TheVariants as subrecord
-use Rattle.oc_omf.specs.Cursor.{Read}
-use Rattle.oc_omf.specs.Entries.{Entry}
-use Rattle.oc_omf.specs.Tables.{Tables, tables_of}
+use Rattle.oc_omf.specs.{declared.structures.Subrecord.{Subrecord}, Cursor.{Read}, Entries.{Entry}, Tables.{Tables, tables_of}}
 use Rattle.oc_omf.specs.Fixups.{PlacedSubrecord, subrecords_by, subrecords_upto, last_of, Fixed, fixed_from, copies_for, field_offsets, is_of_segment}
+use Rattle.oc_omf.specs.declared.structures.Subrecord.TheVariants as subrecord
 use Rattle.oc_omf_file.specs.Pieces.{offsets_of, pieces_of, fields_between}
 use Rattle.oc_omf_file.specs.Outputs.{Output, symbol_outputs, piece_outputs, data_outputs, segment_output, outputs_of}
-use Rattle.oc_omf_file.specs.Outputs as output
 use Rattle.oc_omf_file.specs.Fixups.{written_reloc, raw_of, target_method, field_fixup}
-use Rattle.oc_omf_file.proofs.ListLemmas.{of_take, member_take}
-use Rattle.oc_omf_file.proofs.FixupLaws.{frame_by}
-use Rattle.oc_omf_file.proofs.MadeLaw.{is_row_of, made_fixup, made, made_from}
-use Rattle.oc_omf_file.proofs.GivenLaws.{window_piece, pieces_by, given, tables_before, entry_made}
-use Rattle.oc_omf_file.proofs.PieceLaws.{pieces_follow, piece_of, length-window}
-use Rattle.oc_omf_file.proofs.BehindLaws.{IsDataAt}
-use Rattle.oc_omf_file.proofs.CodedLaws.{IsForOmf, fields_apart, field_there, field_is, inside}
+use Rattle.oc_omf_file.specs.Outputs as output
+use Rattle.oc_omf_file.proofs.{ListLemmas.{of_take, member_take}, FixupLaws.{frame_by}, MadeLaw.{is_row_of, made_fixup, made, made_from}}
+use Rattle.oc_omf_file.proofs.{GivenLaws.{window_piece, pieces_by, given, tables_before, entry_made}, PieceLaws.{pieces_follow, piece_of, length-window}}
+use Rattle.oc_omf_file.proofs.{BehindLaws.{IsDataAt}, CodedLaws.{IsForOmf, fields_apart, field_there, field_is, inside}}
 use Rattle.oc_omf_file.proofs.SmallLaws.{length-raw, between, behind}
 use Rattle.oc_omf_file.proofs.PlacedLaws.{made_record, made_fixed, placed_there, subrecord_is, IsPlain, fixed_by, ArePlain, of_fixed, fixed_there, last_more, made_there, data_there}
 

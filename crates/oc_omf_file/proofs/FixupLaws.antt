@@ -1,16 +1,13 @@
 -- A fixup that is written is read.
 use Rattle.std.proofs.Common.{◌≡◌, ℕ, ◌+◌, ◌*◌, ◌/◌, ◌%◌, ◌^◌, ◌<◌, ◌⊎◌, inl, inr, Bool, true, false, not, nat_le, if◌then◌else◌, List, [], ◌∷◌, ◌++◌, Ok, refl, ◌∙◌, ap, subst, arith, append-nil}
 use Rattle.oc_neutral.specs.KindRules.{has}
-use Rattle.oc_omf.specs.declared.structures.Method.{Method}
-use Rattle.oc_omf.specs.declared.structures.Datum.{Datum}
-use Rattle.oc_omf.specs.declared.structures.Datum.TheVariants as datum
-use Rattle.oc_omf.specs.declared.structures.Subrecord.{Subrecord}
-use Rattle.oc_omf.specs.declared.structures.Subrecord.TheVariants as subrecord
+use Rattle.oc_omf.specs.{declared.structures.Method.{Method}, declared.structures.Datum.{Datum}, declared.structures.Subrecord.{Subrecord}}
 use Rattle.oc_omf.specs.Cursor.{next, number_read}
 use Rattle.oc_omf.specs.Structures.{bits, method_read, thread_read, frame_read, target_read, displacement_read, fixup_read, subrecord_read}
 use Rattle.oc_omf.specs.Bytes.{index_bytes, first_of, fix_of, frame_bytes, fixup_bytes}
-use Rattle.oc_omf_file.proofs.CursorLaws.{Reads, reads_index, reads_next}
-use Rattle.oc_omf_file.proofs.SaidLaws.{reads_byte, reads_last}
+use Rattle.oc_omf.specs.declared.structures.Datum.TheVariants as datum
+use Rattle.oc_omf.specs.declared.structures.Subrecord.TheVariants as subrecord
+use Rattle.oc_omf_file.proofs.{CursorLaws.{Reads, reads_index, reads_next}, SaidLaws.{reads_byte, reads_last}}
 
 -- a fix byte without threads and with no displacement: a frame of that method, a target of that method
 pub record IsFix (fix frame target : ℕ) : Type 0 where

@@ -1,25 +1,15 @@
 -- What the entries of outputs define and mention, whatever their places are.
 use Rattle.std.proofs.Common.{◌≡◌, ℕ, zero, suc, ◌+◌, false, List, [], ◌∷◌, ◌++◌, length, map, take, Option, Some, None, Ok, refl, ◌∙◌, ap}
-use Rattle.std.specs.Prelude.{flat_map, slice_get, slice_range}
-use Rattle.std.specs.Option.{option_map_or}
+use Rattle.std.specs.{Prelude.{flat_map, slice_get, slice_range}, Option.{option_map_or}}
 use Rattle.std.proofs.lemmas.Option.{none-some, same_Some}
-use Rattle.oc_neutral.specs.KeySymbols.{global_place}
-use Rattle.oc_neutral.specs.Normal.{Place}
-use Rattle.oc_neutral.specs.Objects.{Object}
+use Rattle.oc_neutral.specs.{KeySymbols.{global_place}, Normal.{Place}, Objects.{Object}}
 use Rattle.oc_omf_records.specs.Blocks.{none, content}
 use Rattle.oc_omf.specs.declared.structures.Segment as read
-use Rattle.oc_omf.specs.Structures.{Group, Public, External, Piece}
-use Rattle.oc_omf.specs.Entries.{Entry, says_nothing, in_file, all_read}
-use Rattle.oc_omf.specs.Tables.{Tables, tables_of}
-use Rattle.oc_omf.specs.Symbols.{Mention, entry_mentions}
-use Rattle.oc_omf.specs.Bytes.{name_bytes}
-use Rattle.oc_omf_file.specs.Outputs.{Output}
+use Rattle.oc_omf.specs.{Structures.{Group, Public, External, Piece}, Entries.{Entry, says_nothing, in_file, all_read}, Tables.{Tables, tables_of}}
+use Rattle.oc_omf.specs.{Symbols.{Mention, entry_mentions}, Bytes.{name_bytes}}
+use Rattle.oc_omf_file.specs.{Outputs.{Output}, Fixups.{raw_of}, Canonical.{segment_of, size_by, output_bytes}}
 use Rattle.oc_omf_file.specs.Outputs as output
-use Rattle.oc_omf_file.specs.Fixups.{raw_of}
-use Rattle.oc_omf_file.specs.Canonical.{segment_of, size_by, output_bytes}
-use Rattle.oc_omf_file.proofs.CursorLaws.{placed}
-use Rattle.oc_omf_file.proofs.SaidLaws.{near_communal}
-use Rattle.oc_omf_file.proofs.MadeLaw.{made_public, made, made_from}
+use Rattle.oc_omf_file.proofs.{CursorLaws.{placed}, SaidLaws.{near_communal}, MadeLaw.{made_public, made, made_from}}
 
 -- structures that are read, without their places
 all_read-placed : {X Y : Type 0} (bytes : X → List ℕ) (value : X → Y) (place at : ℕ) (xs : List X) → all_read (in_file place (placed bytes value at xs)) ≡ map value xs

@@ -1,24 +1,16 @@
 -- No entry of the canonical file has a fault of the first stage.
 use Rattle.std.proofs.Common.{◌≡◌, ℕ, zero, suc, ◌+◌, Bool, false, not, List, [], ◌∷◌, length, take, Some, refl, sym, ◌∙◌, ap, subst, arith}
-use Rattle.std.specs.Prelude.{slice_get}
-use Rattle.std.specs.List.{enumerate_from}
-use Rattle.std.specs.Option.{option_map_or}
+use Rattle.std.specs.{Prelude.{slice_get}, List.{enumerate_from}, Option.{option_map_or}}
 use Rattle.std.proofs.lemmas.Option.{none-some}
 use Rattle.oc_neutral.specs.Objects.{Object}
 use Rattle.oc_neutral.proofs.Positions.{there_at}
 use Rattle.oc_omf_records.specs.declared.records.Entry.{Entry as Record}
-use Rattle.oc_shelf.proofs.ReadingLaws.StageLemmas.{Unbroken, IsUnbroken}
-use Rattle.oc_shelf.proofs.WritingLaws.MemberLemmas.{member_enumerated, of_map}
-use Rattle.oc_omf.specs.Entries.{places_in}
-use Rattle.oc_omf.specs.HeaderFaults.{is_begun, record_conditions, entry_conditions, header_stage}
-use Rattle.oc_omf_file.specs.Outputs.{Output, outputs_of}
+use Rattle.oc_shelf.proofs.{ReadingLaws.StageLemmas.{Unbroken, IsUnbroken}, WritingLaws.MemberLemmas.{member_enumerated, of_map}}
+use Rattle.oc_omf.specs.{Entries.{places_in}, HeaderFaults.{is_begun, record_conditions, entry_conditions, header_stage}}
+use Rattle.oc_omf_file.specs.{Outputs.{Output, outputs_of}, Canonical.{output_type, output_contents, omf_file}}
 use Rattle.oc_omf_file.specs.Outputs as output
-use Rattle.oc_omf_file.specs.Canonical.{output_type, output_contents, omf_file}
-use Rattle.oc_omf_file.proofs.EntryLaws.{IsEntry}
-use Rattle.oc_omf_file.proofs.ModuleLaw.{Written, written_bytes, places_from, entry_there}
-use Rattle.oc_omf_file.proofs.MadeLaw.{written_of, all_written, are_entries, places_are}
-use Rattle.oc_omf_file.proofs.BehindLaws.{Behind}
-use Rattle.oc_omf_file.proofs.CodedLaws.{IsForOmf}
+use Rattle.oc_omf_file.proofs.{EntryLaws.{IsEntry}, ModuleLaw.{Written, written_bytes, places_from, entry_there}}
+use Rattle.oc_omf_file.proofs.{MadeLaw.{written_of, all_written, are_entries, places_are}, BehindLaws.{Behind}, CodedLaws.{IsForOmf}}
 use Rattle.oc_omf_file.proofs.SmallLaws.{behind, all_small}
 
 -- what is asked of a record

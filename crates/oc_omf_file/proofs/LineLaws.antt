@@ -1,28 +1,17 @@
 -- The symbols of the canonical file: they stand in the order of the symbol table, once each.
 use Rattle.std.proofs.Common.{◌≡◌, ℕ, ◌+◌, ◌<◌, ◌≤◌, inl, inr, Bool, true, false, List, [], ◌∷◌, ◌++◌, length, map, Some, refl, sym, ◌∙◌, ap, arith, length-append, nat_eq, cond, append_assoc}
-use Rattle.std.specs.Prelude.{slice_get, filter, filter_map, count_by}
-use Rattle.std.specs.List.{enumerate_from, cons_option}
-use Rattle.std.proofs.lemmas.Bool.{eq-eqb, ne_eqb, true≢false, cases_lt}
-use Rattle.std.proofs.lemmas.List.{map-append}
-use Rattle.std.proofs.lemmas.List.Sums.{sum_by-cons}
-use Rattle.std.proofs.lemmas.Option.{slice_get_within}
-use Rattle.oc_linking.specs.declared.terms.Value.{Value}
+use Rattle.std.specs.{Prelude.{slice_get, filter, filter_map, count_by}, List.{enumerate_from, cons_option}}
+use Rattle.std.proofs.lemmas.{Bool.{eq-eqb, ne_eqb, true≢false, cases_lt}, List.{map-append}, List.Sums.{sum_by-cons}, Option.{slice_get_within}}
+use Rattle.oc_linking.specs.{declared.terms.Value.{Value}, declared.terms.Binding.{Binding}}
+use Rattle.oc_linking.specs.{declared.terms.Binding.TheVariants.{Local, Global, Undefined, Common, Weak}, Parts.{is_local}}
 use Rattle.oc_linking.specs.declared.terms.Value.TheVariants as value
-use Rattle.oc_linking.specs.declared.terms.Binding.{Binding}
-use Rattle.oc_linking.specs.declared.terms.Binding.TheVariants.{Local, Global, Undefined, Common, Weak}
-use Rattle.oc_linking.specs.Parts.{is_local}
-use Rattle.oc_neutral.specs.declared.symbol.Symbol.{Symbol}
-use Rattle.oc_neutral.specs.Bindings.{is_external}
-use Rattle.oc_neutral.specs.Dressing.{is_common}
-use Rattle.oc_neutral.specs.Objects.{Object}
+use Rattle.oc_neutral.specs.{declared.symbol.Symbol.{Symbol}, Bindings.{is_external}, Dressing.{is_common}, Objects.{Object}}
 use Rattle.oc_shows.specs.SymbolLines.{Line, is_undefined, is_global, is_weak_with, omf_lines}
 use Rattle.oc_shows.proofs.SeenFamilies.{omf_table}
 use Rattle.oc_shelf.proofs.WritingLaws.MemberLemmas.{member_enumerated, member_filter_map, member_first, member_second, member_map, position_first}
 use Rattle.oc_omf_file.specs.Outputs.{Output, external_by, communal_by, external_output, communal_output, public_output, indexed_outputs, symbol_outputs, is_of_symbol, symbol_number}
 use Rattle.oc_omf_file.specs.Outputs as output
-use Rattle.oc_omf_file.proofs.GivenLaws.{mentions_by, mention_of}
-use Rattle.oc_omf_file.proofs.BehindLaws.{OfSymbol, symbols_are}
-use Rattle.oc_omf_file.proofs.CodedLaws.{IsForOmf}
+use Rattle.oc_omf_file.proofs.{GivenLaws.{mentions_by, mention_of}, BehindLaws.{OfSymbol, symbols_are}, CodedLaws.{IsForOmf}}
 
 -- the position of the symbol of an output; of others there is none, and 0 stands for it
 abbrev pub key_of : Output → ℕ

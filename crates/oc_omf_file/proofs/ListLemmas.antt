@@ -1,9 +1,7 @@
 -- Lists: what is taken and found in them.
 use Rattle.std.proofs.Common.{◌≡◌, ℕ, zero, suc, ◌<◌, Bool, true, false, cond, List, [], ◌∷◌, ◌++◌, take, Some, None, refl, sym, ◌∙◌, ap, arith}
-use Rattle.std.specs.Prelude.{slice_get, find}
-use Rattle.std.specs.List.{AllByRecursion}
-use Rattle.std.proofs.lemmas.Bool.{true≢false}
-use Rattle.std.proofs.lemmas.Option.{none-some, same_Some}
+use Rattle.std.specs.{Prelude.{slice_get, find}, List.{AllByRecursion}}
+use Rattle.std.proofs.lemmas.{Bool.{true≢false}, Option.{none-some, same_Some}}
 
 -- ... what is found
 

@@ -1,36 +1,21 @@
 -- The entries of the canonical file, as they read.
 use Rattle.std.proofs.Common.{◌≡◌, ℕ, zero, suc, ◌+◌, ◌-◌, ◌^◌, ◌<◌, ◌≤◌, ◌⊎◌, inl, inr, Bool, true, false, List, [], ◌∷◌, ◌++◌, length, map, Some, None, Ok, refl, sym, ◌∙◌, ap, subst, arith, append_assoc}
-use Rattle.std.specs.Prelude.{flat_map, slice_get, slice_range, codes, if◌then◌else◌, nat_eq}
-use Rattle.std.specs.Option.{option_map_or}
-use Rattle.std.specs.List.{enumerate_from}
+use Rattle.std.specs.{Prelude.{flat_map, slice_get, slice_range, codes, if◌then◌else◌, nat_eq}, Option.{option_map_or}, List.{enumerate_from}}
 use Rattle.std.proofs.lemmas.Option.{none-some, same_Some}
-use Rattle.oc_linking.specs.declared.terms.Binding.{Binding}
-use Rattle.oc_linking.specs.declared.terms.Binding.TheVariants.{Local, Global, Undefined, Common, Weak}
+use Rattle.oc_linking.specs.{declared.terms.Binding.{Binding}, declared.terms.Binding.TheVariants.{Local, Global, Undefined, Common, Weak}}
 use Rattle.oc_chains.specs.declared.field.Field.{Field}
-use Rattle.oc_neutral.specs.declared.section.Section.{Section}
-use Rattle.oc_neutral.specs.declared.symbol.Symbol.{Symbol}
-use Rattle.oc_neutral.specs.declared.reloc.Reloc.{Reloc}
-use Rattle.oc_neutral.specs.declared.reloc.Target.{Target}
+use Rattle.oc_neutral.specs.{declared.section.Section.{Section}, declared.symbol.Symbol.{Symbol}, declared.reloc.Reloc.{Reloc}, declared.reloc.Target.{Target}}
+use Rattle.oc_neutral.specs.{KeySymbols.{global_place}, Normal.{Place}, Objects.{Object}, Rows.{Row}, Omf.Relocs.{FixupFrame, ByTarget, BySelf}}
 use Rattle.oc_neutral.specs.declared.reloc.Target.TheVariants as target
-use Rattle.oc_neutral.specs.KeySymbols.{global_place}
-use Rattle.oc_neutral.specs.Normal.{Place}
-use Rattle.oc_neutral.specs.Objects.{Object}
-use Rattle.oc_neutral.specs.Rows.{Row}
-use Rattle.oc_neutral.specs.Omf.Relocs.{FixupFrame, ByTarget, BySelf}
 use Rattle.oc_omf_records.specs.Blocks.{none, content}
-use Rattle.oc_shelf.proofs.WritingLaws.MemberLemmas.{each_append, each_flat_map, each_map, each_filter_map, of_map}
-use Rattle.oc_shelf.proofs.WritingLaws.StandingLemmas.{stands_whole}
-use Rattle.oc_omf.specs.declared.constants.TheConstants.{PUBDEF, FIXUPP, MODEND}
-use Rattle.oc_omf.specs.declared.structures.Subrecord.{Subrecord}
-use Rattle.oc_omf.specs.Structures.{subrecord_read}
-use Rattle.oc_omf.specs.Entries.{Entry, is_kind, says_nothing, in_file, said_by, said_at, places_in, entries_in}
-use Rattle.oc_omf.specs.Bytes.{wide, index_bytes, name_bytes}
-use Rattle.oc_omf_file.specs.Names.{names_of, filled_from, class_of, name_index}
-use Rattle.oc_omf_file.specs.Pieces.{pieces_of, fields_between}
+use Rattle.oc_shelf.proofs.{WritingLaws.MemberLemmas.{each_append, each_flat_map, each_map, each_filter_map, of_map}, WritingLaws.StandingLemmas.{stands_whole}}
+use Rattle.oc_omf.specs.{declared.constants.TheConstants.{PUBDEF, FIXUPP, MODEND}, declared.structures.Subrecord.{Subrecord}, Structures.{subrecord_read}}
+use Rattle.oc_omf.specs.{Entries.{Entry, is_kind, says_nothing, in_file, said_by, said_at, places_in, entries_in}, Bytes.{wide, index_bytes, name_bytes}}
+use Rattle.oc_omf_file.specs.{Names.{names_of, filled_from, class_of, name_index}, Pieces.{pieces_of, fields_between}}
 use Rattle.oc_omf_file.specs.Outputs.{Output, external_by, communal_by, public_by, external_output, communal_output, public_output, indexed_outputs, symbol_outputs, piece_outputs, data_outputs, segment_output, outputs_of}
-use Rattle.oc_omf_file.specs.Outputs as output
 use Rattle.oc_omf_file.specs.Fixups.{written_reloc, row_by, raw_of, target_method, is_row, field_fixup}
 use Rattle.oc_omf_file.specs.Canonical.{segment_of, size_by, public_at, output_type, output_contents, output_bytes, omf_file}
+use Rattle.oc_omf_file.specs.Outputs as output
 use Rattle.oc_omf_file.proofs.CursorLaws.{Reads, placed, structures_read}
 use Rattle.oc_omf_file.proofs.ModuleLaw.{Written, written_bytes, places_from, said_from, AreEntries, EndLast, entries_stand, places_read, said_read, entries_below}
 use Rattle.oc_omf_file.proofs.SaidLaws.{near_communal, names_said, segment_said, header_said, group_said, end_said, external_said, communal_said, symbol_bytes, public_said, piece_said}

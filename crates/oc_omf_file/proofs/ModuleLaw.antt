@@ -1,14 +1,11 @@
 -- The entries of a file that is written are those that were written.
 use Rattle.std.proofs.Common.{◌≡◌, ℕ, zero, suc, ◌+◌, ◌<◌, ◌≤◌, true, false, List, [], ◌∷◌, length, map, Some, None, refl, ◌∙◌, ap, subst, arith, length-append}
-use Rattle.std.specs.Prelude.{flat_map, slice_get, not, ◌||◌, if◌then◌else◌}
-use Rattle.std.specs.Option.{option_map_or}
+use Rattle.std.specs.{Prelude.{flat_map, slice_get, not, ◌||◌, if◌then◌else◌}, Option.{option_map_or}}
 use Rattle.std.proofs.lemmas.Option.{none-some, same_Some}
 use Rattle.oc_omf_records.specs.NextEntry.{end_of_entry, entry_of}
 use Rattle.oc_shelf.specs.Writing.Parts.{Stands}
 use Rattle.oc_shelf.proofs.WritingLaws.StandingLemmas.{stands_front, stands_back}
-use Rattle.oc_omf.specs.declared.constants.TheConstants.{MODEND}
-use Rattle.oc_omf.specs.Entries.{Entry, is_kind, said_by, said_at, is_last, places_upto}
-use Rattle.oc_omf.specs.Bytes.{entry_bytes}
+use Rattle.oc_omf.specs.{declared.constants.TheConstants.{MODEND}, Entries.{Entry, is_kind, said_by, said_at, is_last, places_upto}, Bytes.{entry_bytes}}
 use Rattle.oc_omf_file.proofs.EntryLaws.{IsEntry, entry_stands, length-entry}
 
 -- a type and contents

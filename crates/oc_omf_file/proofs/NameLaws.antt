@@ -1,21 +1,12 @@
 -- The names of the canonical file: an index means its name, names are few, and they fill entries.
 use Rattle.std.proofs.Common.{◌≡◌, ℕ, zero, suc, ◌+◌, ◌-◌, ◌≤◌, Bool, true, false, ◌||◌, nat_eq, nat_lt, cond, if◌then◌else◌, List, [], ◌∷◌, ◌++◌, length, map, Some, refl, sym, ◌∙◌, ap, subst, arith, bytes_eq, true≢false, append_assoc, append-nil, length-append}
-use Rattle.std.specs.Prelude.{slice_get, fold, flat_map, codes}
-use Rattle.std.specs.List.{list_any, position_or_len}
-use Rattle.std.specs.Option.{unwrap_or}
-use Rattle.std.proofs.lemmas.Bool.Decides.{nat_tests}
-use Rattle.std.proofs.lemmas.List.Sums.{sum_by-cons, sum_by-append}
-use Rattle.std.proofs.lemmas.Option.{none-some, same_Some, slice_get_within}
+use Rattle.std.specs.{Prelude.{slice_get, fold, flat_map, codes}, List.{list_any, position_or_len}, Option.{unwrap_or}}
+use Rattle.std.proofs.lemmas.{Bool.Decides.{nat_tests}, List.Sums.{sum_by-cons, sum_by-append}, Option.{none-some, same_Some, slice_get_within}}
 use Rattle.std.proofs.lemmas.Slice.Eq.{bytes_eq-Decides}
-use Rattle.oc_linking.specs.declared.terms.Kind.{Kind}
-use Rattle.oc_linking.specs.declared.terms.Kind.TheVariants.{Code, ReadOnly, Data, Zero, Init, Fini, Debug, Exception, Note}
-use Rattle.oc_neutral.specs.declared.section.Section.{Section}
-use Rattle.oc_neutral.specs.Objects.{Object}
-use Rattle.oc_neutral.specs.Omf.Kinds.{omf_class}
+use Rattle.oc_linking.specs.{declared.terms.Kind.{Kind}, declared.terms.Kind.TheVariants.{Code, ReadOnly, Data, Zero, Init, Fini, Debug, Exception, Note}}
+use Rattle.oc_neutral.specs.{declared.section.Section.{Section}, Objects.{Object}, Omf.Kinds.{omf_class}}
 use Rattle.oc_shelf.proofs.WritingLaws.MemberLemmas.{member_flat_map, each_append, each_flat_map}
-use Rattle.oc_omf.specs.Tables.{Tables, indexed, name_at}
-use Rattle.oc_omf.specs.declared.constants.TheConstants.{MOST_ENTRY_BYTES}
-use Rattle.oc_omf.specs.Bytes.{name_bytes}
+use Rattle.oc_omf.specs.{Tables.{Tables, indexed, name_at}, declared.constants.TheConstants.{MOST_ENTRY_BYTES}, Bytes.{name_bytes}}
 use Rattle.oc_omf_file.specs.Names.{class_of, with_name, names_of, name_index, names_size, filled_from}
 use Rattle.oc_omf_file.specs.Outputs as output
 use Rattle.oc_omf_file.proofs.GivenLaws.{names_by}

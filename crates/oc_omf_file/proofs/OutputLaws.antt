@@ -1,17 +1,13 @@
 -- The entries of the canonical file, in their order: what stands before each, and what all define.
 use Rattle.std.proofs.Common.{◌≡◌, ℕ, zero, suc, ◌+◌, Bool, true, false, List, [], ◌∷◌, ◌++◌, length, map, take, Some, refl, sym, ◌∙◌, ap, subst, arith, append_assoc}
-use Rattle.std.specs.Prelude.{flat_map, slice_get, nat_eq, if◌then◌else◌}
-use Rattle.std.specs.List.{enumerate_from}
-use Rattle.std.proofs.lemmas.Grind.{flat_map-append}
-use Rattle.std.proofs.lemmas.Option.{none-some, same_Some}
-use Rattle.oc_neutral.specs.declared.section.Section.{Section}
-use Rattle.oc_neutral.specs.Objects.{Object}
+use Rattle.std.specs.{Prelude.{flat_map, slice_get, nat_eq, if◌then◌else◌}, List.{enumerate_from}}
+use Rattle.std.proofs.lemmas.{Grind.{flat_map-append}, Option.{none-some, same_Some}}
+use Rattle.oc_neutral.specs.{declared.section.Section.{Section}, Objects.{Object}}
 use Rattle.oc_shelf.proofs.WritingLaws.MemberLemmas.{each_append, each_flat_map, each_map}
-use Rattle.oc_omf_file.specs.Names.{names_of, filled_from}
-use Rattle.oc_omf_file.specs.Pieces.{pieces_of, fields_between}
+use Rattle.oc_omf_file.specs.{Names.{names_of, filled_from}, Pieces.{pieces_of, fields_between}}
 use Rattle.oc_omf_file.specs.Outputs.{Output, external_by, communal_by, public_by, external_output, communal_output, public_output, indexed_outputs, symbol_outputs, piece_outputs, data_outputs, segment_output, outputs_of}
-use Rattle.oc_omf_file.specs.Outputs as output
 use Rattle.oc_omf_file.specs.Canonical.{segment_of}
+use Rattle.oc_omf_file.specs.Outputs as output
 use Rattle.oc_omf_file.proofs.GivenLaws.{names_by, segments_by, groups_by, publics_by, externals_by, pieces_by, mentions_by, given}
 use Rattle.oc_omf_file.proofs.NameLaws.{filled_names, filled_small, IsShort}
 use Rattle.oc_omf_file.proofs.BehindLaws.{AllBehind, all_append, behind_at, flat, Defines, all_segments, IsReady, OfSymbol, EndsBy, made_tables, Behind, more, still, symbols_are, symbol_silent, symbol_ends, names_walk, segments_walk, symbols_walk, HasApart, sections_walk}

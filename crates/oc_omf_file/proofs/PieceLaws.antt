@@ -1,16 +1,12 @@
 -- The pieces of a section follow one another from its start to its end, are short, cut no field, and are its bytes together.
 use Rattle.std.proofs.Common.{◌≡◌, ℕ, zero, suc, ◌+◌, ◌-◌, ◌*◌, ◌<◌, ◌≤◌, Bool, true, false, nat_lt, if◌then◌else◌, List, [], ◌∷◌, ◌++◌, length, map, take, drop, min, Option, Some, None, refl, sym, ◌∙◌, ap, arith, append-nil, append_assoc}
-use Rattle.std.specs.Prelude.{slice_get, slice_range, find, fold, replicate}
-use Rattle.std.specs.Option.{unwrap_or}
-use Rattle.std.proofs.lemmas.Bool.Decides.{nat_tests}
-use Rattle.std.proofs.lemmas.List.{length-take-le, length-drop, drop_all, length-replicate}
-use Rattle.std.proofs.lemmas.Option.{none-some, same_Some}
+use Rattle.std.specs.{Prelude.{slice_get, slice_range, find, fold, replicate}, Option.{unwrap_or}}
+use Rattle.std.proofs.lemmas.{Bool.Decides.{nat_tests}, List.{length-take-le, length-drop, drop_all, length-replicate}, Option.{none-some, same_Some}}
 use Rattle.std.proofs.Math.Seq.{drop-append-add, take-append_seam}
 use Rattle.oc_omf_records.specs.Blocks.{none, content, denotation}
-use Rattle.oc_omf.specs.Sections.{laid_over}
+use Rattle.oc_omf.specs.{Sections.{laid_over}, declared.constants.TheConstants.{MOST_ENTRY_BYTES}}
 use Rattle.oc_target.proofs.MeetsRows.{found_there}
 use Rattle.oc_shelf.proofs.WritingLaws.WindowLemmas.{take_none, drop_none}
-use Rattle.oc_omf.specs.declared.constants.TheConstants.{MOST_ENTRY_BYTES}
 use Rattle.oc_omf_file.specs.Pieces.{cuts, piece_end, pieces_upto}
 use Rattle.oc_omf_file.proofs.GivenLaws.{window_piece}
 

@@ -1,35 +1,21 @@
 -- Subrecords in their places, and the fixups among them.
 use Rattle.std.proofs.Common.{◌≡◌, ℕ, zero, suc, ◌+◌, ◌-◌, true, false, not, List, [], ◌∷◌, ◌++◌, length, map, Option, Some, None, Result, Ok, Err, refl, sym, ◌∙◌, ap}
-use Rattle.std.specs.Prelude.{flat_map, slice_get}
-use Rattle.std.specs.List.{enumerate_from}
-use Rattle.std.specs.Option.{option_map_or}
+use Rattle.std.specs.{Prelude.{flat_map, slice_get}, List.{enumerate_from}, Option.{option_map_or}}
 use Rattle.std.proofs.lemmas.Option.{none-some, same_Some}
 use Rattle.oc_chains.specs.declared.field.Field.{Field}
-use Rattle.oc_neutral.specs.declared.section.Section.{Section}
-use Rattle.oc_neutral.specs.declared.reloc.Reloc.{Reloc}
-use Rattle.oc_neutral.specs.KeySymbols.{global_place}
-use Rattle.oc_neutral.specs.Normal.{Place}
-use Rattle.oc_neutral.specs.Objects.{Object}
+use Rattle.oc_neutral.specs.{declared.section.Section.{Section}, declared.reloc.Reloc.{Reloc}, KeySymbols.{global_place}, Normal.{Place}, Objects.{Object}}
 use Rattle.oc_neutral.specs.Omf.Relocs.{ByTarget, BySelf}
 use Rattle.oc_shelf.proofs.WritingLaws.MemberLemmas.{member_first, member_second}
-use Rattle.oc_omf.specs.declared.cut.Cut.{Cut}
-use Rattle.oc_omf.specs.declared.structures.Method.{Method}
-use Rattle.oc_omf.specs.declared.structures.Datum.TheVariants as datum
-use Rattle.oc_omf.specs.declared.structures.Fixup.{Fixup}
-use Rattle.oc_omf.specs.declared.structures.Subrecord.{Subrecord}
-use Rattle.oc_omf.specs.declared.structures.Subrecord.TheVariants as subrecord
-use Rattle.oc_omf.specs.Cursor.{Read}
-use Rattle.oc_omf.specs.Entries.{says_nothing, in_file}
+use Rattle.oc_omf.specs.{declared.cut.Cut.{Cut}, declared.structures.Method.{Method}, declared.structures.Fixup.{Fixup}}
+use Rattle.oc_omf.specs.{declared.structures.Subrecord.{Subrecord}, Cursor.{Read}, Entries.{says_nothing, in_file}}
 use Rattle.oc_omf.specs.Fixups.{PlacedSubrecord, method_of, last_of, Fixed, fixed_of, with_fixed, fixed_from}
-use Rattle.oc_omf_file.specs.Pieces.{fields_between}
-use Rattle.oc_omf_file.specs.Names.{names_of, filled_from}
+use Rattle.oc_omf.specs.declared.structures.Datum.TheVariants as datum
+use Rattle.oc_omf.specs.declared.structures.Subrecord.TheVariants as subrecord
+use Rattle.oc_omf_file.specs.{Pieces.{fields_between}, Names.{names_of, filled_from}}
 use Rattle.oc_omf_file.specs.Outputs.{Output, symbol_outputs, piece_outputs, data_outputs, segment_output, outputs_of}
+use Rattle.oc_omf_file.specs.{Fixups.{written_reloc, raw_of, target_method, field_fixup}, Canonical.{output_bytes}}
 use Rattle.oc_omf_file.specs.Outputs as output
-use Rattle.oc_omf_file.specs.Fixups.{written_reloc, raw_of, target_method, field_fixup}
-use Rattle.oc_omf_file.specs.Canonical.{output_bytes}
-use Rattle.oc_omf_file.proofs.CursorLaws.{placed}
-use Rattle.oc_omf_file.proofs.FixupLaws.{frame_by}
-use Rattle.oc_omf_file.proofs.MadeLaw.{is_row_of, made_fixup, made_public, made, made_from}
+use Rattle.oc_omf_file.proofs.{CursorLaws.{placed}, FixupLaws.{frame_by}, MadeLaw.{is_row_of, made_fixup, made_public, made, made_from}}
 use Rattle.oc_omf_file.proofs.GivenLaws.{window_piece}
 
 -- a fixup as it reads

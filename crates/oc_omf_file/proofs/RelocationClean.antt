@@ -1,45 +1,23 @@
 -- No fixup of the canonical file has a fault.
 use Rattle.std.proofs.Common.{◌≡◌, ℕ, zero, suc, ◌+◌, ◌<◌, ◌≤◌, ◌⊎◌, inl, inr, Bool, true, false, not, ◌&&◌, ◌||◌, nat_le, nat_lt, nat_eq, if◌then◌else◌, List, [], ◌∷◌, ◌++◌, length, take, filter, Some, Result, refl, sym, ◌∙◌, ap, subst, arith, append-nil}
-use Rattle.std.specs.Prelude.{flat_map, slice_get}
-use Rattle.std.specs.List.{enumerate_from, list_any, AllByRecursion}
-use Rattle.std.specs.Option.{option_map_or, is_some}
-use Rattle.std.proofs.lemmas.Bool.{eqb-true}
-use Rattle.std.proofs.lemmas.Bool.Decides.{nat_tests}
-use Rattle.std.proofs.lemmas.Grind.{flat_map-append}
-use Rattle.std.proofs.lemmas.Option.{none-some, same_Some}
-use Rattle.oc_linking.specs.FirstFault.{Condition}
-use Rattle.oc_linking.specs.Keeping.{all}
-use Rattle.oc_chains.specs.Fields.{FollowFrom, end_of}
-use Rattle.oc_chains.specs.declared.field.Field.{Field}
-use Rattle.oc_chains.specs.Lists.{list_of}
-use Rattle.oc_neutral.specs.declared.reloc.Reloc.{Reloc}
-use Rattle.oc_neutral.specs.Objects.{Object, reloc_at}
-use Rattle.oc_neutral.specs.Omf.Relocs.{ByTarget}
+use Rattle.std.specs.{Prelude.{flat_map, slice_get}, List.{enumerate_from, list_any, AllByRecursion}, Option.{option_map_or, is_some}}
+use Rattle.std.proofs.lemmas.{Bool.{eqb-true}, Bool.Decides.{nat_tests}, Grind.{flat_map-append}, Option.{none-some, same_Some}}
+use Rattle.oc_linking.specs.{FirstFault.{Condition}, Keeping.{all}}
+use Rattle.oc_chains.specs.{Fields.{FollowFrom, end_of}, declared.field.Field.{Field}, Lists.{list_of}}
+use Rattle.oc_neutral.specs.{declared.reloc.Reloc.{Reloc}, Objects.{Object, reloc_at}, Omf.Relocs.{ByTarget}}
 use Rattle.oc_neutral.proofs.Positions.{there_at}
 use Rattle.oc_shelf.proofs.ReadingLaws.StageLemmas.{Unbroken, IsUnbroken}
 use Rattle.oc_shelf.proofs.WritingLaws.MemberLemmas.{each_append, none_passes, of_map, of_enumerated, all_members}
-use Rattle.oc_omf.specs.declared.cut.Cut.{Cut}
-use Rattle.oc_omf.specs.declared.structures.Subrecord.{Subrecord}
-use Rattle.oc_omf.specs.Structures.{Piece}
-use Rattle.oc_omf.specs.Entries.{Entry}
-use Rattle.oc_omf.specs.Tables.{Tables, is_there}
+use Rattle.oc_omf.specs.{declared.cut.Cut.{Cut}, declared.structures.Subrecord.{Subrecord}, Structures.{Piece}, Entries.{Entry}, Tables.{Tables, is_there}}
 use Rattle.oc_omf.specs.Fixups.{PlacedSubrecord, subrecords_by, subrecords_upto, Fixed, fixed_from, fixed_in, is_inside, is_of_segment, field_offsets, are_near, meet}
-use Rattle.oc_omf.specs.Targets.{Meaning, meaning_of}
-use Rattle.oc_omf.specs.Fields.{aim_of}
+use Rattle.oc_omf.specs.{Targets.{Meaning, meaning_of}, Fields.{aim_of}}
 use Rattle.oc_omf.specs.RelocationFaults.{is_judged, has_row, fixup_conditions, part_conditions, relocation_conditions, relocation_stage, relocation_stages}
-use Rattle.oc_omf_file.specs.Pieces.{fields_between}
-use Rattle.oc_omf_file.specs.Outputs.{Output, outputs_of}
+use Rattle.oc_omf_file.specs.{Pieces.{fields_between}, Outputs.{Output, outputs_of}, Fixups.{written_reloc, target_method}}
 use Rattle.oc_omf_file.specs.Outputs as output
-use Rattle.oc_omf_file.specs.Fixups.{written_reloc, target_method}
-use Rattle.oc_omf_file.proofs.ListLemmas.{of_take, member_take}
-use Rattle.oc_omf_file.proofs.FixupLaws.{frame_by}
-use Rattle.oc_omf_file.proofs.MadeLaw.{is_row_of}
-use Rattle.oc_omf_file.proofs.GivenLaws.{segments_by, groups_by, externals_by, given}
-use Rattle.oc_omf_file.proofs.BehindLaws.{EndsBy, made_tables, flat}
-use Rattle.oc_omf_file.proofs.CodedLaws.{IsForOmf, apart_by}
+use Rattle.oc_omf_file.proofs.{ListLemmas.{of_take, member_take}, FixupLaws.{frame_by}, MadeLaw.{is_row_of}}
+use Rattle.oc_omf_file.proofs.{GivenLaws.{segments_by, groups_by, externals_by, given}, BehindLaws.{EndsBy, made_tables, flat}, CodedLaws.{IsForOmf, apart_by}}
 use Rattle.oc_omf_file.proofs.FixedLaws.{entries, IsPlacedField, placed_is, placed_upto_is, plain_is, IsFixed, fixed_is, bounds, has_field, reloc_of}
-use Rattle.oc_omf_file.proofs.PlacedLaws.{IsPlain, fixed_by, fixed_plain, of_fixed}
-use Rattle.oc_omf_file.proofs.TargetLaws.{meant, row_read, IsAimed, aim_read}
+use Rattle.oc_omf_file.proofs.{PlacedLaws.{IsPlain, fixed_by, fixed_plain, of_fixed}, TargetLaws.{meant, row_read, IsAimed, aim_read}}
 use Rattle.oc_omf_file.proofs.ShowsLaw.{read, meaning_read}
 
 unbroken_if : (b : Bool) (cs : List Condition) → Unbroken cs → Unbroken (if b then cs else [])

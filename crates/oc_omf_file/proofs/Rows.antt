@@ -1,38 +1,22 @@
 -- Canonical files of objects, computed, and compared with files from outside.
 use Rattle.std.proofs.Common.{◌≡◌, ℕ, List, [], ◌∷◌, None, refl, ℤ, false}
 use Rattle.std.specs.Prelude.{map, codes, replicate, pos, negsuc, ◌++◌}
-use Rattle.oc_base.specs.declared.format.Format.TheVariants.{Omf}
-use Rattle.oc_base.specs.Numbers.{bytes_of_number}
-use Rattle.oc_algebra.specs.Fields.{field_for, to_field_of}
-use Rattle.oc_algebra.specs.Residues.{reduced_number, residue_of}
-use Rattle.oc_linking.specs.Fits.{bytes_of}
-use Rattle.oc_linking.specs.declared.terms.Base.TheVariants.{Address}
-use Rattle.oc_linking.specs.declared.terms.Less.{Less}
-use Rattle.oc_linking.specs.declared.terms.Less.TheVariants as less
-use Rattle.oc_linking.specs.declared.terms.Width.TheVariants.{Four}
-use Rattle.oc_linking.specs.declared.terms.Check.TheVariants.{Wrap}
-use Rattle.oc_linking.specs.declared.terms.Hint.TheVariants.{Plain}
-use Rattle.oc_linking.specs.declared.terms.Kind.{Kind}
-use Rattle.oc_linking.specs.declared.terms.Kind.TheVariants as kind
-use Rattle.oc_linking.specs.declared.terms.Mark.TheVariants.{NoType}
-use Rattle.oc_linking.specs.declared.terms.Visibility.TheVariants.{Default}
-use Rattle.oc_linking.specs.declared.terms.Value.TheVariants as value
-use Rattle.oc_linking.specs.declared.terms.Binding.{Binding}
+use Rattle.oc_base.specs.{declared.format.Format.TheVariants.{Omf}, Numbers.{bytes_of_number}}
+use Rattle.oc_algebra.specs.{Fields.{field_for, to_field_of}, Residues.{reduced_number, residue_of}}
+use Rattle.oc_linking.specs.{Fits.{bytes_of}, declared.terms.Base.TheVariants.{Address}, declared.terms.Less.{Less}, declared.terms.Width.TheVariants.{Four}}
+use Rattle.oc_linking.specs.{declared.terms.Check.TheVariants.{Wrap}, declared.terms.Hint.TheVariants.{Plain}, declared.terms.Kind.{Kind}}
+use Rattle.oc_linking.specs.{declared.terms.Mark.TheVariants.{NoType}, declared.terms.Visibility.TheVariants.{Default}, declared.terms.Binding.{Binding}}
 use Rattle.oc_linking.specs.declared.terms.Binding.TheVariants.{Global, Undefined, Common}
+use Rattle.oc_linking.specs.declared.terms.Less.TheVariants as less
+use Rattle.oc_linking.specs.declared.terms.Kind.TheVariants as kind
+use Rattle.oc_linking.specs.declared.terms.Value.TheVariants as value
 use Rattle.oc_chains.specs.declared.field.Field.{Field}
-use Rattle.oc_neutral.specs.declared.section.Section.{Section}
-use Rattle.oc_neutral.specs.declared.symbol.Symbol.{Symbol}
-use Rattle.oc_neutral.specs.declared.reloc.Reloc.{Reloc}
-use Rattle.oc_neutral.specs.declared.reloc.Target.{Target}
+use Rattle.oc_neutral.specs.{declared.section.Section.{Section}, declared.symbol.Symbol.{Symbol}, declared.reloc.Reloc.{Reloc}, declared.reloc.Target.{Target}}
+use Rattle.oc_neutral.specs.{Objects.{Object}, Spelling.{written_row}}
 use Rattle.oc_neutral.specs.declared.reloc.Target.TheVariants as target
-use Rattle.oc_neutral.specs.Objects.{Object}
-use Rattle.oc_neutral.specs.Spelling.{written_row}
 use Rattle.oc_omf.specs.Bytes.{entry_bytes, index_bytes, length_bytes}
-use Rattle.oc_omf_file.specs.Names.{names_of, names_size, filled_from}
-use Rattle.oc_omf_file.specs.Pieces.{pieces_of}
-use Rattle.oc_omf_file.specs.Outputs.{symbol_outputs, outputs_of}
-use Rattle.oc_omf_file.specs.Fixups.{field_number, raw_of}
-use Rattle.oc_omf_file.specs.Canonical.{output_contents, omf_file}
+use Rattle.oc_omf_file.specs.{Names.{names_of, names_size, filled_from}, Pieces.{pieces_of}, Outputs.{symbol_outputs, outputs_of}}
+use Rattle.oc_omf_file.specs.{Fixups.{field_number, raw_of}, Canonical.{output_contents, omf_file}}
 use Rattle.oc_omf_file.proofs.WorkedFiles.{bare, calls, everything, cut}
 
 -- a section

@@ -1,19 +1,16 @@
 -- What each entry of an output says.
 use Rattle.std.proofs.Common.{◌≡◌, ℕ, zero, suc, ◌+◌, ◌^◌, ◌<◌, ◌≤◌, Bool, true, false, nat_lt, nat_le, nat_eq, if◌then◌else◌, List, [], ◌∷◌, ◌++◌, length, drop, Some, None, Ok, refl, sym, ◌∙◌, ap, subst, arith, append-nil, append_assoc, length-append}
 use Rattle.std.specs.Prelude.{flat_map, slice_get}
-use Rattle.std.proofs.lemmas.Bool.Decides.{nat_tests}
-use Rattle.std.proofs.lemmas.Option.{none-some, same_Some}
+use Rattle.std.proofs.lemmas.{Bool.Decides.{nat_tests}, Option.{none-some, same_Some}}
 use Rattle.std.proofs.Math.Seq.{drop-append-add}
 use Rattle.oc_base.specs.Numbers.{number_at, bytes_of_number}
 use Rattle.oc_omf_records.specs.Blocks.{none, content}
 use Rattle.oc_shelf.specs.Writing.Parts.{Stands}
 use Rattle.oc_shelf.proofs.WritingLaws.StandingLemmas.{stands_front, stands_back, stands_whole, stands_inside, stands_first}
 use Rattle.oc_omf.specs.declared.constants.TheConstants.{THEADR, LNAMES, SEGDEF, GRPDEF, EXTDEF, COMDEF, PUBDEF, LEDATA, MODEND, NEAR}
-use Rattle.oc_omf.specs.declared.structures.Segment.{Segment}
-use Rattle.oc_omf.specs.Cursor.{Reading, next, number_read, index_read, name_read, each_read}
+use Rattle.oc_omf.specs.{declared.structures.Segment.{Segment}, Cursor.{Reading, next, number_read, index_read, name_read, each_read}}
 use Rattle.oc_omf.specs.Structures.{External, segment_read, member_read, group_read, base_read, public_read, external_read, communal_width, communal_length, communal_read, piece_read}
-use Rattle.oc_omf.specs.Entries.{says_nothing, in_file, whole, publics_of, said_by}
-use Rattle.oc_omf.specs.Bytes.{wide, index_bytes, name_bytes, length_bytes}
+use Rattle.oc_omf.specs.{Entries.{says_nothing, in_file, whole, publics_of, said_by}, Bytes.{wide, index_bytes, name_bytes, length_bytes}}
 use Rattle.oc_omf_file.proofs.CursorLaws.{Reads, stands_byte, reads_number, reads_name, reads_index, reads_next, placed, structures_read}
 
 -- a number of one byte

@@ -1,45 +1,26 @@
 -- No entry of the canonical file has a fault in its names, its segment, its group or its data.
 use Rattle.std.proofs.Common.{◌≡◌, ℕ, zero, suc, ◌+◌, ◌-◌, ◌*◌, ◌<◌, ◌≤◌, inl, inr, Bool, true, false, not, ◌&&◌, ◌||◌, nat_le, nat_lt, nat_eq, cond, if◌then◌else◌, List, [], ◌∷◌, ◌++◌, length, map, min, take, drop, Option, Some, None, refl, sym, ◌∙◌, ap, subst, arith}
-use Rattle.std.specs.Prelude.{flat_map, slice_get, slice_range}
-use Rattle.std.specs.List.{enumerate_from, list_any, sum_by}
-use Rattle.std.specs.Option.{option_map_or}
-use Rattle.std.proofs.lemmas.Bool.{eqb-true}
-use Rattle.std.proofs.lemmas.Bool.Decides.{nat_tests}
-use Rattle.std.proofs.lemmas.List.{length-map, length-take}
-use Rattle.std.proofs.lemmas.List.Sums.{sum_by-cons, sum_by-append}
+use Rattle.std.specs.{Prelude.{flat_map, slice_get, slice_range}, List.{enumerate_from, list_any, sum_by}, Option.{option_map_or}}
+use Rattle.std.proofs.lemmas.{Bool.{eqb-true}, Bool.Decides.{nat_tests}, List.{length-map, length-take}, List.Sums.{sum_by-cons, sum_by-append}}
 use Rattle.std.proofs.lemmas.Option.{none-some, same_Some, slice_get_within}
-use Rattle.oc_linking.specs.declared.terms.Kind.{Kind}
-use Rattle.oc_linking.specs.declared.terms.Kind.TheVariants.{Code, ReadOnly, Data, Zero, Init, Fini, Debug, Exception, Note}
-use Rattle.oc_neutral.specs.declared.section.Section.{Section}
-use Rattle.oc_neutral.specs.Building.{is_zero, size_sum, stored_size, stored_sum}
-use Rattle.oc_neutral.specs.KeySymbols.{global_place}
-use Rattle.oc_neutral.specs.KindRules.{same_kind}
-use Rattle.oc_neutral.specs.Normal.{Place}
-use Rattle.oc_neutral.specs.Objects.{Object}
+use Rattle.oc_linking.specs.{declared.terms.Kind.{Kind}, declared.terms.Kind.TheVariants.{Code, ReadOnly, Data, Zero, Init, Fini, Debug, Exception, Note}}
+use Rattle.oc_neutral.specs.{declared.section.Section.{Section}, Building.{is_zero, size_sum, stored_size, stored_sum}, KeySymbols.{global_place}}
+use Rattle.oc_neutral.specs.{KindRules.{same_kind}, Normal.{Place}, Objects.{Object}}
 use Rattle.oc_shelf.proofs.ReadingLaws.StageLemmas.{Unbroken, IsUnbroken, unbroken_append}
 use Rattle.oc_shelf.proofs.WritingLaws.MemberLemmas.{each_flat_map, member_enumerated, member_first, none_passes, of_filter}
 use Rattle.oc_neutral.proofs.Positions.{there_at}
-use Rattle.oc_omf.specs.Structures.{Piece}
-use Rattle.oc_omf.specs.Entries.{Entry, says_nothing, in_file}
-use Rattle.oc_omf.specs.Tables.{Tables, tables_of, is_indexed}
+use Rattle.oc_omf.specs.{Structures.{Piece}, Entries.{Entry, says_nothing, in_file}, Tables.{Tables, tables_of, is_indexed}}
 use Rattle.oc_omf.specs.Sections.{segment_size, size_at, piece_size, segment_kind}
-use Rattle.oc_omf.specs.Sections as read
 use Rattle.oc_omf.specs.SectionFaults.{name_conditions, is_combination, is_named, form_conditions, size_conditions, segment_conditions, group_conditions, pieces_meet, piece_conditions, bytes_size, all_bytes, end_conditions, conditions_on, section_conditions, section_stage}
 use Rattle.oc_omf.specs.Bytes.{name_bytes}
-use Rattle.oc_omf_file.specs.Names.{names_of, class_of, name_index}
-use Rattle.oc_omf_file.specs.Outputs.{Output, outputs_of}
+use Rattle.oc_omf.specs.Sections as read
+use Rattle.oc_omf_file.specs.{Names.{names_of, class_of, name_index}, Outputs.{Output, outputs_of}, Fixups.{raw_of}, Canonical.{segment_of}}
 use Rattle.oc_omf_file.specs.Outputs as output
-use Rattle.oc_omf_file.specs.Fixups.{raw_of}
-use Rattle.oc_omf_file.specs.Canonical.{segment_of}
-use Rattle.oc_omf_file.proofs.CursorLaws.{placed}
-use Rattle.oc_omf_file.proofs.MadeLaw.{made, made_public}
+use Rattle.oc_omf_file.proofs.{CursorLaws.{placed}, MadeLaw.{made, made_public}}
 use Rattle.oc_omf_file.proofs.GivenLaws.{window_piece, names_by, pieces_by, given, tables_before, entry_made}
-use Rattle.oc_omf_file.proofs.NameLaws.{name_within, section_named, section_classed, names_begin}
-use Rattle.oc_omf_file.proofs.PieceLaws.{length-window}
-use Rattle.oc_omf_file.proofs.BehindLaws.{Behind, EndsBy, IsSegmentAt, IsDataAt, made_tables}
-use Rattle.oc_omf_file.proofs.CodedLaws.{IsForOmf, size_low}
-use Rattle.oc_omf_file.proofs.SmallLaws.{behind, length-raw, segment_there}
-use Rattle.oc_omf_file.proofs.SectionLaws.{IsFramed, frame_is, has_bytes, kind_made, size_made}
+use Rattle.oc_omf_file.proofs.{NameLaws.{name_within, section_named, section_classed, names_begin}, PieceLaws.{length-window}}
+use Rattle.oc_omf_file.proofs.{BehindLaws.{Behind, EndsBy, IsSegmentAt, IsDataAt, made_tables}, CodedLaws.{IsForOmf, size_low}}
+use Rattle.oc_omf_file.proofs.{SmallLaws.{behind, length-raw, segment_there}, SectionLaws.{IsFramed, frame_is, has_bytes, kind_made, size_made}}
 use Rattle.oc_omf_file.proofs.FixedLaws.{entries}
 
 -- ... names

@@ -1,44 +1,23 @@
 -- The sections of the canonical file are those of the object.
 use Rattle.std.proofs.Common.{◌≡◌, ℕ, zero, suc, ◌+◌, ◌-◌, ◌<◌, Bool, true, false, cond, nat_eq, nat_lt, if◌then◌else◌, List, [], ◌∷◌, ◌++◌, length, map, filter, replicate, Some, None, refl, sym, ◌∙◌, ap, subst, arith, append-nil}
-use Rattle.std.specs.Prelude.{flat_map, slice_get, fold, ◌≢◌}
-use Rattle.std.specs.List.{enumerate_from, list_any}
-use Rattle.std.specs.Option.{option_map_or, option_and_then, unwrap_or}
-use Rattle.std.proofs.lemmas.Bool.Decides.{nat_tests}
-use Rattle.std.proofs.lemmas.Grind.{flat_map-append}
-use Rattle.std.proofs.lemmas.List.Elements.{filter-append}
-use Rattle.std.proofs.lemmas.Option.{none-some, same_Some}
-use Rattle.oc_linking.specs.declared.terms.Kind.{Kind}
-use Rattle.oc_linking.specs.declared.terms.Kind.TheVariants.{Zero}
+use Rattle.std.specs.{Prelude.{flat_map, slice_get, fold, ◌≢◌}, List.{enumerate_from, list_any}, Option.{option_map_or, option_and_then, unwrap_or}}
+use Rattle.std.proofs.lemmas.{Bool.Decides.{nat_tests}, Grind.{flat_map-append}, List.Elements.{filter-append}, Option.{none-some, same_Some}}
+use Rattle.oc_linking.specs.{declared.terms.Kind.{Kind}, declared.terms.Kind.TheVariants.{Zero}}
 use Rattle.oc_linking.specs.Parts as parts
-use Rattle.oc_neutral.specs.declared.section.Section.{Section}
-use Rattle.oc_neutral.specs.Building.{is_zero}
-use Rattle.oc_neutral.specs.Faces.{key_of}
-use Rattle.oc_neutral.specs.Invariants.{HasItsBytes}
-use Rattle.oc_neutral.specs.Objects.{Object}
-use Rattle.oc_neutral.specs.Omf.Family.{omf_aligns}
-use Rattle.oc_neutral.specs.Omf.Kinds.{omf_kind, omf_tag}
+use Rattle.oc_neutral.specs.{declared.section.Section.{Section}, Building.{is_zero}, Faces.{key_of}, Invariants.{HasItsBytes}, Objects.{Object}}
+use Rattle.oc_neutral.specs.{Omf.Family.{omf_aligns}, Omf.Kinds.{omf_kind, omf_tag}}
 use Rattle.oc_target.specs.OmfMeets.{OmfSection}
 use Rattle.oc_neutral.proofs.Positions.{each_at}
-use Rattle.oc_omf.specs.Structures.{Piece}
-use Rattle.oc_omf.specs.Entries.{entries_in}
-use Rattle.oc_omf.specs.Tables.{Tables, tables_of, indexed, name_at}
-use Rattle.oc_omf.specs.Sections as read
+use Rattle.oc_omf.specs.{Structures.{Piece}, Entries.{entries_in}, Tables.{Tables, tables_of, indexed, name_at}}
 use Rattle.oc_omf.specs.Sections.{align_code, align_of, combination, is_big, is_use32, segment_size, size_at, piece_size, laid_over, contents_of, is_covered, segment_kind, section_of, sections_in}
-use Rattle.oc_omf_file.specs.Names.{class_of}
-use Rattle.oc_omf_file.specs.Pieces.{offsets_of, pieces_of, pieces_upto, fields_between}
+use Rattle.oc_omf.specs.Sections as read
+use Rattle.oc_omf_file.specs.{Names.{class_of}, Pieces.{offsets_of, pieces_of, pieces_upto, fields_between}}
+use Rattle.oc_omf_file.specs.{Outputs.{Output, piece_outputs, data_outputs, outputs_of}, Fixups.{raw_of}, Canonical.{segment_of, omf_file}}
 use Rattle.oc_shelf.proofs.WritingLaws.MemberLemmas.{member_map}
-use Rattle.oc_omf_file.specs.Outputs.{Output, piece_outputs, data_outputs, outputs_of}
 use Rattle.oc_omf_file.specs.Outputs as output
-use Rattle.oc_omf_file.specs.Fixups.{raw_of}
-use Rattle.oc_omf_file.specs.Canonical.{segment_of, omf_file}
-use Rattle.oc_omf_file.proofs.MadeLaw.{entries_made}
-use Rattle.oc_omf_file.proofs.GivenLaws.{window_piece, pieces_by, tables_made}
-use Rattle.oc_omf_file.proofs.NameLaws.{name_made, section_named, section_classed}
-use Rattle.oc_omf_file.proofs.PieceLaws.{Follow, pieces_follow, pieces_are}
-use Rattle.oc_omf_file.proofs.BehindLaws.{made_tables}
-use Rattle.oc_omf_file.proofs.OutputLaws.{tables_given}
-use Rattle.oc_omf_file.proofs.CodedLaws.{IsForOmf, section_is, short_names, fields_apart}
-use Rattle.oc_omf_file.proofs.SmallLaws.{length-raw, all_small}
+use Rattle.oc_omf_file.proofs.{MadeLaw.{entries_made}, GivenLaws.{window_piece, pieces_by, tables_made}, NameLaws.{name_made, section_named, section_classed}}
+use Rattle.oc_omf_file.proofs.{PieceLaws.{Follow, pieces_follow, pieces_are}, BehindLaws.{made_tables}, OutputLaws.{tables_given}}
+use Rattle.oc_omf_file.proofs.{CodedLaws.{IsForOmf, section_is, short_names, fields_apart}, SmallLaws.{length-raw, all_small}}
 
 -- ... what the attributes of a segment say
 

@@ -2,21 +2,15 @@
 use Rattle.std.proofs.Common.{◌≡◌, ℕ, zero, suc, ◌+◌, List, [], ◌∷◌, map, Some, refl, sym, ◌∙◌, ap, arith}
 use Rattle.std.specs.Prelude.{slice_get}
 use Rattle.std.proofs.lemmas.Option.{none-some, same_Some}
-use Rattle.oc_base.specs.declared.format.Format.TheVariants.{Omf}
-use Rattle.oc_base.specs.Formats.{word_for}
-use Rattle.oc_neutral.specs.declared.symbol.Symbol.{Symbol}
-use Rattle.oc_neutral.specs.Objects.{Object}
-use Rattle.oc_neutral.specs.Families.{container_of}
-use Rattle.oc_shows.specs.Manners.{omf_manner, manner_of, own_manner}
-use Rattle.oc_shows.specs.Seen.{shown_from, new_position, seen_symbol, seen_symbols, seen_with, seen}
+use Rattle.oc_base.specs.{declared.format.Format.TheVariants.{Omf}, Formats.{word_for}}
+use Rattle.oc_neutral.specs.{declared.symbol.Symbol.{Symbol}, Objects.{Object}, Families.{container_of}}
+use Rattle.oc_shows.specs.{Manners.{omf_manner, manner_of, own_manner}, Seen.{shown_from, new_position, seen_symbol, seen_symbols, seen_with, seen}}
 use Rattle.oc_shows.specs.SymbolLines.{omf_lines}
-use Rattle.oc_shows.proofs.SeenFamilies.{omf_table}
-use Rattle.oc_shows.proofs.SeenLines.{IsShown, table_shows}
+use Rattle.oc_shows.proofs.{SeenFamilies.{omf_table}, SeenLines.{IsShown, table_shows}}
 use Rattle.oc_made_files.proofs.MadeLaws as made
 use Rattle.oc_made_files.proofs.ShownLines as by_lines
 use Rattle.oc_omf_file.specs.Outputs.{Output, symbol_outputs}
-use Rattle.oc_omf_file.proofs.CodedLaws.{IsForOmf}
-use Rattle.oc_omf_file.proofs.LineLaws.{key_of, line_of, lines_are, strong}
+use Rattle.oc_omf_file.proofs.{CodedLaws.{IsForOmf}, LineLaws.{key_of, line_of, lines_are, strong}}
 
 -- the symbols that are shown, by position, with their numbers
 abbrev pub shown : Object → List (ℕ × ℕ)

@@ -1,40 +1,22 @@
 -- The canonical file of an object that is ready for OMF shows the object that is seen.
 use Rattle.std.proofs.Common.{◌≡◌, ℕ, inl, inr, List, Some, None, refl, sym, ◌∙◌, ap, subst}
-use Rattle.std.specs.Prelude.{slice_get, find}
-use Rattle.std.specs.Option.{option_and_then}
+use Rattle.std.specs.{Prelude.{slice_get, find}, Option.{option_and_then}}
 use Rattle.oc_base.specs.declared.format.Format.TheVariants.{Omf}
 use Rattle.oc_linking.specs.Keeping.{all}
 use Rattle.oc_linking.specs.Targets as linked
-use Rattle.oc_neutral.specs.declared.section.Section.{Section}
-use Rattle.oc_neutral.specs.declared.reloc.Reloc.{Reloc}
+use Rattle.oc_neutral.specs.{declared.section.Section.{Section}, declared.reloc.Reloc.{Reloc}, Objects.{Object, reloc_at}, Building.{is_zero}}
+use Rattle.oc_neutral.specs.{Normal.{place_among}, Omf.Relocs.{fixup_row}}
 use Rattle.oc_neutral.specs.declared.reloc.Target.TheVariants as target
-use Rattle.oc_neutral.specs.Objects.{Object, reloc_at}
-use Rattle.oc_shows.specs.Again.{HasContents}
-use Rattle.oc_neutral.specs.Building.{is_zero}
+use Rattle.oc_shows.specs.{Again.{HasContents}, Manners.{omf_manner}, RowFields.{IsTarget}, Seen.{seen, seen_section, seen_target, new_position}, Shows.{Shows}}
 use Rattle.oc_target.specs.Fitted.{IsFitted}
-use Rattle.oc_shows.specs.Manners.{omf_manner}
-use Rattle.oc_neutral.specs.Normal.{place_among}
-use Rattle.oc_neutral.specs.Omf.Relocs.{fixup_row}
-use Rattle.oc_shows.specs.RowFields.{IsTarget}
-use Rattle.oc_shows.specs.Seen.{seen, seen_section, seen_target, new_position}
-use Rattle.oc_shows.specs.Shows.{Shows}
-use Rattle.oc_omf.specs.Entries.{entries_in}
-use Rattle.oc_omf.specs.Sections.{sections_in}
-use Rattle.oc_omf.specs.Fixups.{fixed_in}
-use Rattle.oc_omf.specs.Targets.{meaning_of, section_target, target_of}
-use Rattle.oc_omf.specs.Fields.{relocates, field_by, fixups_in, fields_in}
-use Rattle.oc_omf.specs.Rules.{omf_dialect}
+use Rattle.oc_omf.specs.{Entries.{entries_in}, Sections.{sections_in}, Fixups.{fixed_in}, Targets.{meaning_of, section_target, target_of}}
+use Rattle.oc_omf.specs.{Fields.{relocates, field_by, fixups_in, fields_in}, Rules.{omf_dialect}}
 use Rattle.oc_made_files.specs.MadeFiles.{IsMadeField, IsMadeFile}
 use Rattle.oc_made_files.proofs.MadeLaws.{patched_beside, contents_by_kind, outer_aimed, made_by_row, made_file_shows}
-use Rattle.oc_omf_file.specs.Fixups.{written_reloc, target_method, field_patch, raw_of}
-use Rattle.oc_omf_file.specs.Canonical.{omf_file}
-use Rattle.oc_omf_file.proofs.MadeLaw.{entries_made}
-use Rattle.oc_omf_file.proofs.CodedLaws.{IsForOmf, framed, none_past}
-use Rattle.oc_omf_file.proofs.AimLaws.{aimed}
-use Rattle.oc_omf_file.proofs.SmallLaws.{length-raw, all_small}
+use Rattle.oc_omf_file.specs.{Fixups.{written_reloc, target_method, field_patch, raw_of}, Canonical.{omf_file}}
+use Rattle.oc_omf_file.proofs.{MadeLaw.{entries_made}, CodedLaws.{IsForOmf, framed, none_past}, AimLaws.{aimed}, SmallLaws.{length-raw, all_small}}
 use Rattle.oc_omf_file.proofs.SectionLaws.{made_contents, made_section, has_bytes, sections_made, tables_read}
-use Rattle.oc_omf_file.proofs.SeenLaws.{shown, again, syms, manner_is, are_shown, seen_there, position_is}
-use Rattle.oc_omf_file.proofs.SymbolLaws.{mentions_read, symbols_read}
+use Rattle.oc_omf_file.proofs.{SeenLaws.{shown, again, syms, manner_is, are_shown, seen_there, position_is}, SymbolLaws.{mentions_read, symbols_read}}
 use Rattle.oc_omf_file.proofs.FixedLaws.{entries}
 use Rattle.oc_omf_file.proofs.TargetLaws.{meant, IsAimed, aim_read, is_outer, outer_target, numbered_symbol, section_target_read, symbol_target_read}
 use Rattle.oc_omf_file.proofs.FieldLaws.{a, reloc_made, field_made, fixups, no_fixup}

@@ -1,42 +1,24 @@
 -- Each entry of the canonical file can be written: its numbers fit, and it is short.
 use Rattle.std.proofs.Common.{◌≡◌, ℕ, suc, ◌+◌, ◌-◌, ◌*◌, ◌/◌, ◌%◌, ◌^◌, ◌<◌, ◌≤◌, Bool, true, false, ◌&&◌, nat_lt, nat_le, if◌then◌else◌, List, [], ◌∷◌, ◌++◌, length, take, filter, Some, refl, ◌∙◌, ap, subst, arith, length-append}
-use Rattle.std.specs.Prelude.{flat_map, slice_get, slice_range, max}
-use Rattle.std.specs.Option.{option_map_or}
-use Rattle.std.proofs.lemmas.Bool.Decides.{nat_tests}
-use Rattle.std.proofs.lemmas.Option.{slice_get_within}
+use Rattle.std.specs.{Prelude.{flat_map, slice_get, slice_range, max}, Option.{option_map_or}}
+use Rattle.std.proofs.lemmas.{Bool.Decides.{nat_tests}, Option.{slice_get_within}}
 use Rattle.oc_base.specs.Numbers.{bytes_of_number}
 use Rattle.oc_base.proofs.NumberLaws.{length-bytes_of_number}
-use Rattle.oc_linking.specs.declared.terms.Value.{Value}
+use Rattle.oc_linking.specs.{declared.terms.Value.{Value}, declared.terms.Binding.TheVariants.{Global}, Parts.{is_local}}
 use Rattle.oc_linking.specs.declared.terms.Value.TheVariants as value
-use Rattle.oc_linking.specs.declared.terms.Binding.TheVariants.{Global}
-use Rattle.oc_chains.specs.Fields.{FollowFrom, end_of}
-use Rattle.oc_chains.specs.declared.field.Field.{Field}
-use Rattle.oc_chains.specs.Lists.{list_of}
-use Rattle.oc_neutral.specs.declared.section.Section.{Section}
-use Rattle.oc_neutral.specs.declared.symbol.Symbol.{Symbol}
-use Rattle.oc_neutral.specs.declared.reloc.Reloc.{Reloc}
-use Rattle.oc_linking.specs.Parts.{is_local}
-use Rattle.oc_neutral.specs.Building.{is_zero}
-use Rattle.oc_neutral.specs.Invariants.{IsBinding, HasItsBytes}
+use Rattle.oc_chains.specs.{Fields.{FollowFrom, end_of}, declared.field.Field.{Field}, Lists.{list_of}}
+use Rattle.oc_neutral.specs.{declared.section.Section.{Section}, declared.symbol.Symbol.{Symbol}, declared.reloc.Reloc.{Reloc}, Building.{is_zero}}
+use Rattle.oc_neutral.specs.{Invariants.{IsBinding, HasItsBytes}, KeySymbols.{global_place}, Objects.{Object, reloc_at}, Omf.Relocs.{ByTarget, fixup_row}}
 use Rattle.oc_neutral.proofs.Positions.{each_at}
-use Rattle.oc_neutral.specs.KeySymbols.{global_place}
-use Rattle.oc_neutral.specs.Objects.{Object, reloc_at}
-use Rattle.oc_neutral.specs.Omf.Relocs.{ByTarget, fixup_row}
 use Rattle.oc_linking.proofs.Overlay.{length-overlay}
 use Rattle.oc_omf.specs.Bytes.{frame_bytes, index_bytes, name_bytes, length_bytes}
-use Rattle.oc_omf_file.specs.Names.{class_of, name_index}
-use Rattle.oc_omf_file.specs.Pieces.{fields_between}
-use Rattle.oc_omf_file.specs.Outputs.{Output, outputs_of}
-use Rattle.oc_omf_file.specs.Outputs as output
+use Rattle.oc_omf_file.specs.{Names.{class_of, name_index}, Pieces.{fields_between}, Outputs.{Output, outputs_of}}
 use Rattle.oc_omf_file.specs.Fixups.{raw_of, field_patches, field_fixup, fixup_by, written_reloc, target_method, is_row}
 use Rattle.oc_omf_file.specs.Canonical.{size_by, public_at, output_contents}
-use Rattle.oc_omf_file.proofs.MadeLaw.{IsSmall}
-use Rattle.oc_omf_file.proofs.NameLaws.{name_within, section_named, section_classed, length-names}
-use Rattle.oc_omf_file.proofs.PieceLaws.{length-window}
-use Rattle.oc_omf_file.proofs.BehindLaws.{IsDataAt, IsSegmentAt, Behind}
-use Rattle.oc_omf_file.proofs.OutputLaws.{each_behind}
-use Rattle.oc_omf_file.proofs.CodedLaws.{IsForOmf, few_names, short_names, size_low, field_is, framed, row_is, fields_apart}
-use Rattle.oc_omf_file.proofs.AimLaws.{symbol_is, index_low}
+use Rattle.oc_omf_file.specs.Outputs as output
+use Rattle.oc_omf_file.proofs.{MadeLaw.{IsSmall}, NameLaws.{name_within, section_named, section_classed, length-names}, PieceLaws.{length-window}}
+use Rattle.oc_omf_file.proofs.{BehindLaws.{IsDataAt, IsSegmentAt, Behind}, OutputLaws.{each_behind}}
+use Rattle.oc_omf_file.proofs.{CodedLaws.{IsForOmf, few_names, short_names, size_low, field_is, framed, row_is, fields_apart}, AimLaws.{symbol_is, index_low}}
 use Rattle.oc_shelf.proofs.WritingLaws.MemberLemmas.{of_filter}
 
 -- ... sizes

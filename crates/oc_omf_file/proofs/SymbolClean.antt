@@ -1,44 +1,21 @@
 -- No entry of the canonical file has a fault in its symbols.
 use Rattle.std.proofs.Common.{◌≡◌, ℕ, zero, suc, ◌+◌, ◌^◌, Bool, true, false, not, ◌&&◌, ◌||◌, nat_le, nat_lt, nat_eq, if◌then◌else◌, bytes_eq, List, [], ◌∷◌, ◌++◌, length, take, get_or, Option, Some, None, refl, sym, ◌∙◌, ap, subst, arith, append-nil}
-use Rattle.std.specs.Prelude.{flat_map, slice_get, ◌≢◌}
-use Rattle.std.specs.List.{enumerate_from, list_any, AllByRecursion}
-use Rattle.std.specs.Option.{option_map_or}
-use Rattle.std.proofs.lemmas.Bool.{ne_eqb}
-use Rattle.std.proofs.lemmas.Bool.Decides.{nat_tests}
-use Rattle.std.proofs.lemmas.List.{length-map}
-use Rattle.std.proofs.lemmas.Option.{none-some, same_Some, slice_get_within}
-use Rattle.oc_linking.specs.declared.terms.Value.{Value}
+use Rattle.std.specs.{Prelude.{flat_map, slice_get, ◌≢◌}, List.{enumerate_from, list_any, AllByRecursion}, Option.{option_map_or}}
+use Rattle.std.proofs.lemmas.{Bool.{ne_eqb}, Bool.Decides.{nat_tests}, List.{length-map}, Option.{none-some, same_Some, slice_get_within}}
+use Rattle.oc_linking.specs.{declared.terms.Value.{Value}, declared.terms.Binding.TheVariants.{Global}, FirstFault.{Condition}}
 use Rattle.oc_linking.specs.declared.terms.Value.TheVariants as value
-use Rattle.oc_linking.specs.declared.terms.Binding.TheVariants.{Global}
-use Rattle.oc_linking.specs.FirstFault.{Condition}
-use Rattle.oc_neutral.specs.declared.symbol.Symbol.{Symbol}
-use Rattle.oc_neutral.specs.Invariants.{IsBinding}
-use Rattle.oc_neutral.specs.KeySymbols.{global_place}
-use Rattle.oc_neutral.specs.Normal.{Place}
-use Rattle.oc_neutral.specs.Objects.{Object}
+use Rattle.oc_neutral.specs.{declared.symbol.Symbol.{Symbol}, Invariants.{IsBinding}, KeySymbols.{global_place}, Normal.{Place}, Objects.{Object}}
 use Rattle.oc_shelf.proofs.ReadingLaws.StageLemmas.{Unbroken, IsUnbroken}
 use Rattle.oc_shelf.proofs.WritingLaws.MemberLemmas.{each_flat_map, member_first, none_passes, of_map, of_enumerated, all_members}
-use Rattle.oc_omf.specs.declared.structures.Communal.{Communal}
-use Rattle.oc_omf.specs.Structures.{Public, External, communal_width}
-use Rattle.oc_omf.specs.Entries.{Entry, says_nothing}
-use Rattle.oc_omf.specs.Tables.{tables_of}
-use Rattle.oc_omf.specs.Symbols.{Mention, same_symbol, public_mention, external_mention}
-use Rattle.oc_omf.specs.Sections.{size_at}
+use Rattle.oc_omf.specs.{declared.structures.Communal.{Communal}, Structures.{Public, External, communal_width}, Entries.{Entry, says_nothing}}
+use Rattle.oc_omf.specs.{Tables.{tables_of}, Symbols.{Mention, same_symbol, public_mention, external_mention}, Sections.{size_at}}
 use Rattle.oc_omf.specs.SymbolFaults.{EntryContext, is_empty, base_conditions, same_public, public_conditions, is_no_form, is_other_length, communal_conditions, external_conditions, symbol_table, symbol_stage, entry_context, symbol_stages}
-use Rattle.oc_omf_file.specs.Outputs.{Output, symbol_outputs, outputs_of}
+use Rattle.oc_omf_file.specs.{Outputs.{Output, symbol_outputs, outputs_of}, Canonical.{segment_of, size_by}}
 use Rattle.oc_omf_file.specs.Outputs as output
-use Rattle.oc_omf_file.specs.Canonical.{segment_of, size_by}
-use Rattle.oc_omf_file.proofs.SaidLaws.{communal_form}
-use Rattle.oc_omf_file.proofs.MadeLaw.{made, made_public}
+use Rattle.oc_omf_file.proofs.{SaidLaws.{communal_form}, MadeLaw.{made, made_public}}
 use Rattle.oc_omf_file.proofs.GivenLaws.{mention_of, publics_by, externals_by, public_of as publics_at, given, tables_made, tables_before, entry_made}
-use Rattle.oc_omf_file.proofs.BehindLaws.{Behind, IsSymbolAt, made_tables}
-use Rattle.oc_omf_file.proofs.OutputLaws.{tables_given}
-use Rattle.oc_omf_file.proofs.CodedLaws.{IsForOmf, short_names, fields_apart}
-use Rattle.oc_omf_file.proofs.LineLaws.{name_by}
-use Rattle.oc_omf_file.proofs.AimLaws.{symbol_is}
-use Rattle.oc_omf_file.proofs.SmallLaws.{behind}
-use Rattle.oc_omf_file.proofs.SectionLaws.{size_made}
-use Rattle.oc_omf_file.proofs.SymbolLaws.{mentioned, differ}
+use Rattle.oc_omf_file.proofs.{BehindLaws.{Behind, IsSymbolAt, made_tables}, OutputLaws.{tables_given}, CodedLaws.{IsForOmf, short_names, fields_apart}}
+use Rattle.oc_omf_file.proofs.{LineLaws.{name_by}, AimLaws.{symbol_is}, SmallLaws.{behind}, SectionLaws.{size_made}, SymbolLaws.{mentioned, differ}}
 use Rattle.oc_omf_file.proofs.FixedLaws.{entries}
 
 -- ... lists

@@ -1,42 +1,24 @@
 -- The symbols of the canonical file are those that are seen.
 use Rattle.std.proofs.Common.{◌≡◌, ℕ, zero, suc, ◌+◌, ◌-◌, Bool, true, false, ◌&&◌, List, [], ◌∷◌, ◌++◌, map, take, Option, Some, None, refl, sym, ◌∙◌, ap, arith, append_assoc, append-nil}
-use Rattle.std.specs.Prelude.{flat_map, slice_get, fold, filter_map, if◌then◌else◌, ◌≢◌}
-use Rattle.std.specs.List.{list_any, enumerate_from, cons_option}
+use Rattle.std.specs.{Prelude.{flat_map, slice_get, fold, filter_map, if◌then◌else◌, ◌≢◌}, List.{list_any, enumerate_from, cons_option}}
 use Rattle.std.specs.Option.{option_map, option_map_or, option_and_then, is_some}
-use Rattle.std.proofs.lemmas.Bool.{true≢false}
-use Rattle.std.proofs.lemmas.Option.{none-some, same_Some}
-use Rattle.std.proofs.lemmas.Slice.Eq.{bytes_eq-Decides}
-use Rattle.oc_linking.specs.declared.terms.Value.{Value}
+use Rattle.std.proofs.lemmas.{Bool.{true≢false}, Option.{none-some, same_Some}, Slice.Eq.{bytes_eq-Decides}}
+use Rattle.oc_linking.specs.{declared.terms.Value.{Value}, declared.terms.Binding.TheVariants.{Global, Undefined, Common}}
 use Rattle.oc_linking.specs.declared.terms.Value.TheVariants as value
-use Rattle.oc_linking.specs.declared.terms.Binding.TheVariants.{Global, Undefined, Common}
-use Rattle.oc_neutral.specs.declared.symbol.Symbol.{Symbol}
-use Rattle.oc_neutral.specs.Faces.{shown_symbol, shown_symbols, shown_binding}
-use Rattle.oc_neutral.specs.KeySymbols.{global_place}
-use Rattle.oc_shows.specs.Manners.{omf_manner}
-use Rattle.oc_neutral.specs.Normal.{Place}
-use Rattle.oc_neutral.specs.Objects.{Object}
-use Rattle.oc_neutral.specs.Powers.{natural_align}
-use Rattle.oc_shows.specs.Seen.{seen_symbol, seen_symbols, seen_binding}
+use Rattle.oc_neutral.specs.{declared.symbol.Symbol.{Symbol}, Faces.{shown_symbol, shown_symbols, shown_binding}, KeySymbols.{global_place}, Normal.{Place}}
+use Rattle.oc_neutral.specs.{Objects.{Object}, Powers.{natural_align}}
+use Rattle.oc_shows.specs.{Manners.{omf_manner}, Seen.{seen_symbol, seen_symbols, seen_binding}}
 use Rattle.oc_shelf.proofs.WritingLaws.MemberLemmas.{each_flat_map, member_flat_map, member_map, of_map, none_passes, position_first}
-use Rattle.oc_omf.specs.Structures.{Public, External}
-use Rattle.oc_omf.specs.Entries.{entries_in}
-use Rattle.oc_omf.specs.Tables.{Tables, tables_of}
+use Rattle.oc_omf.specs.{Structures.{Public, External}, Entries.{entries_in}, Tables.{Tables, tables_of}}
 use Rattle.oc_omf.specs.Symbols.{Mention, same_symbol, public_mention, external_mention, entry_mentions, with_new, mentions_in, number_of, public_of, public_binding, communal_of, binding_of, symbol_of, symbols_in}
 use Rattle.oc_made_files.proofs.ShownLines.{seen_one}
-use Rattle.oc_omf_file.specs.Outputs.{Output, symbol_outputs, outputs_of}
+use Rattle.oc_omf_file.specs.{Outputs.{Output, symbol_outputs, outputs_of}, Canonical.{size_by, omf_file}}
 use Rattle.oc_omf_file.specs.Outputs as output
-use Rattle.oc_omf_file.specs.Canonical.{size_by, omf_file}
-use Rattle.oc_omf_file.proofs.ListLemmas.{find_fails, find_only, of_take}
-use Rattle.oc_omf_file.proofs.SaidLaws.{near_communal}
-use Rattle.oc_omf_file.proofs.MadeLaw.{entries_made}
+use Rattle.oc_omf_file.proofs.{ListLemmas.{find_fails, find_only, of_take}, SaidLaws.{near_communal}, MadeLaw.{entries_made}}
 use Rattle.oc_omf_file.proofs.GivenLaws.{mention_of, mentions_by, publics_by, externals_by, public_of as publics_at, mentions_made}
-use Rattle.oc_omf_file.proofs.BehindLaws.{OfSymbol, symbols_are, made_tables}
-use Rattle.oc_omf_file.proofs.OutputLaws.{mentions_by_symbols}
-use Rattle.oc_omf_file.proofs.CodedLaws.{IsForOmf, short_names, fields_apart}
-use Rattle.oc_omf_file.proofs.LineLaws.{key_of, name_by, listed_at, names_once}
-use Rattle.oc_omf_file.proofs.SmallLaws.{all_small}
-use Rattle.oc_omf_file.proofs.SectionLaws.{tables_read}
-use Rattle.oc_omf_file.proofs.SeenLaws.{shown, again, syms, shown_are, shown_outputs}
+use Rattle.oc_omf_file.proofs.{BehindLaws.{OfSymbol, symbols_are, made_tables}, OutputLaws.{mentions_by_symbols}}
+use Rattle.oc_omf_file.proofs.{CodedLaws.{IsForOmf, short_names, fields_apart}, LineLaws.{key_of, name_by, listed_at, names_once}, SmallLaws.{all_small}}
+use Rattle.oc_omf_file.proofs.{SectionLaws.{tables_read}, SeenLaws.{shown, again, syms, shown_are, shown_outputs}}
 
 -- ... what is found
 

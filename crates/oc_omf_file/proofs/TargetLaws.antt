@@ -1,52 +1,25 @@
 -- The targets and the rows of the canonical file's fixups are those of its object's relocations.
 use Rattle.std.proofs.Common.{◌≡◌, ℕ, zero, suc, ◌+◌, ◌-◌, inl, inr, nat_le, true, false, not, ◌&&◌, cond, nat_eq, if◌then◌else◌, bytes_eq, List, [], ◌∷◌, ◌++◌, length, map, Some, None, refl, sym, ◌∙◌, ap, subst, arith}
-use Rattle.std.specs.Prelude.{slice_get, flat_map, filter_map, codes}
-use Rattle.std.specs.List.{enumerate_from}
-use Rattle.std.specs.Option.{option_map, option_map_or, option_and_then, unwrap_or}
-use Rattle.std.proofs.lemmas.Bool.{eq-eqb, ne_eqb}
-use Rattle.std.proofs.lemmas.Bool.Decides.{nat_tests}
-use Rattle.std.proofs.lemmas.Grind.{flat_map-append}
-use Rattle.std.proofs.lemmas.List.{length-map}
+use Rattle.std.specs.{Prelude.{slice_get, flat_map, filter_map, codes}, List.{enumerate_from}, Option.{option_map, option_map_or, option_and_then, unwrap_or}}
+use Rattle.std.proofs.lemmas.{Bool.{eq-eqb, ne_eqb}, Bool.Decides.{nat_tests}, Grind.{flat_map-append}, List.{length-map}}
 use Rattle.std.proofs.lemmas.Option.{none-some, same_Some, slice_get_within}
-use Rattle.oc_linking.specs.declared.terms.Binding.{Binding}
-use Rattle.oc_linking.specs.declared.terms.Binding.TheVariants.{Local, Global, Undefined, Common, Weak}
-use Rattle.oc_linking.specs.Rules.{Symbolic}
-use Rattle.oc_linking.specs.Parts.{is_local}
-use Rattle.oc_linking.specs.Targets.{Target, symbol_target}
-use Rattle.oc_linking.specs.Values.{numbered}
-use Rattle.oc_neutral.specs.declared.symbol.Symbol.{Symbol}
-use Rattle.oc_neutral.specs.declared.reloc.Reloc.{Reloc}
+use Rattle.oc_linking.specs.{declared.terms.Binding.{Binding}, declared.terms.Binding.TheVariants.{Local, Global, Undefined, Common, Weak}, Rules.{Symbolic}}
+use Rattle.oc_linking.specs.{Parts.{is_local}, Targets.{Target, symbol_target}, Values.{numbered}}
+use Rattle.oc_neutral.specs.{declared.symbol.Symbol.{Symbol}, declared.reloc.Reloc.{Reloc}, Bindings.{is_external}, Faces.{shown_symbol, shown_symbols}}
+use Rattle.oc_neutral.specs.{Objects.{Object, reloc_at}, Omf.Relocs.{FixupFrame, ByFlat, ByTarget, BySelf, fixup_row}}
 use Rattle.oc_neutral.specs.declared.reloc.Target.TheVariants as target
-use Rattle.oc_neutral.specs.Bindings.{is_external}
-use Rattle.oc_neutral.specs.Faces.{shown_symbol, shown_symbols}
-use Rattle.oc_shows.specs.Manners.{omf_manner}
-use Rattle.oc_neutral.specs.Objects.{Object, reloc_at}
-use Rattle.oc_neutral.specs.Omf.Relocs.{FixupFrame, ByFlat, ByTarget, BySelf, fixup_row}
-use Rattle.oc_shows.specs.Seen.{seen_symbol}
+use Rattle.oc_shows.specs.{Manners.{omf_manner}, Seen.{seen_symbol}}
 use Rattle.oc_shelf.proofs.WritingLaws.MemberLemmas.{each_append, each_filter_map, member_map}
-use Rattle.oc_omf.specs.declared.structures.Method.{Method}
-use Rattle.oc_omf.specs.Structures.{External}
-use Rattle.oc_omf.specs.Tables.{Tables, indexed, is_there}
-use Rattle.oc_omf.specs.Symbols.{Mention, external_mention, number_of, symbol_of}
-use Rattle.oc_omf.specs.Fixups.{Fixed}
-use Rattle.oc_omf.specs.Targets.{Meaning, section_target, target_of, is_flat, is_home}
-use Rattle.oc_omf.specs.Fields.{framed_row, row_of}
+use Rattle.oc_omf.specs.{declared.structures.Method.{Method}, Structures.{External}, Tables.{Tables, indexed, is_there}}
+use Rattle.oc_omf.specs.{Symbols.{Mention, external_mention, number_of, symbol_of}, Fixups.{Fixed}}
+use Rattle.oc_omf.specs.{Targets.{Meaning, section_target, target_of, is_flat, is_home}, Fields.{framed_row, row_of}}
 use Rattle.oc_made_files.proofs.MadeLaws.{named_by_symbol}
 use Rattle.oc_omf_file.specs.Outputs.{Output, external_by, communal_by, external_output, communal_output, public_output, indexed_outputs, symbol_outputs, symbol_number}
+use Rattle.oc_omf_file.specs.{Fixups.{is_row, written_reloc, target_method}, Canonical.{segment_of}}
 use Rattle.oc_omf_file.specs.Outputs as output
-use Rattle.oc_omf_file.specs.Fixups.{is_row, written_reloc, target_method}
-use Rattle.oc_omf_file.specs.Canonical.{segment_of}
-use Rattle.oc_omf_file.proofs.FixupLaws.{frame_by}
-use Rattle.oc_omf_file.proofs.MadeLaw.{is_row_of}
-use Rattle.oc_omf_file.proofs.GivenLaws.{externals_by}
-use Rattle.oc_omf_file.proofs.NameLaws.{names_begin}
-use Rattle.oc_omf_file.proofs.BehindLaws.{made_tables}
-use Rattle.oc_omf_file.proofs.CodedLaws.{IsForOmf, framed, row_is}
-use Rattle.oc_omf_file.proofs.LineLaws.{key_of, number_is, indexed_there, symbol_there}
-use Rattle.oc_omf_file.proofs.AimLaws.{aimed}
-use Rattle.oc_omf_file.proofs.SeenLaws.{shown, again, syms}
-use Rattle.oc_omf_file.proofs.SymbolLaws.{mentioned, mention_number, symbol_read, symbols_made}
-use Rattle.oc_omf_file.proofs.FixedLaws.{IsFixed, reloc_of}
+use Rattle.oc_omf_file.proofs.{FixupLaws.{frame_by}, MadeLaw.{is_row_of}, GivenLaws.{externals_by}, NameLaws.{names_begin}, BehindLaws.{made_tables}}
+use Rattle.oc_omf_file.proofs.{CodedLaws.{IsForOmf, framed, row_is}, LineLaws.{key_of, number_is, indexed_there, symbol_there}, AimLaws.{aimed}}
+use Rattle.oc_omf_file.proofs.{SeenLaws.{shown, again, syms}, SymbolLaws.{mentioned, mention_number, symbol_read, symbols_made}, FixedLaws.{IsFixed, reloc_of}}
 
 -- what indexes mean in the file
 abbrev pub meant : Object → Meaning

@@ -4,20 +4,10 @@ use Rattle.std.specs.List.{AllByRecursion}
 use Rattle.oc_linking.specs.Keeping.{all}
 use Rattle.oc_neutral.specs.Objects.{Object}
 use Rattle.oc_shelf.proofs.ReadingLaws.StageLemmas.{IsUnbroken, no_first_fault}
-use Rattle.oc_omf.specs.Entries.{entries_in}
-use Rattle.oc_omf.specs.SymbolFaults.{symbol_stages}
-use Rattle.oc_omf.specs.RelocationFaults.{relocation_stages}
-use Rattle.oc_omf.specs.Rules.{OmfIsDialect, stages_of, fault_of}
-use Rattle.oc_omf_file.specs.Canonical.{omf_file}
-use Rattle.oc_omf_file.specs.Writing.{OmfIsWritten}
-use Rattle.oc_omf_file.proofs.ListLemmas.{all_both}
-use Rattle.oc_omf_file.proofs.CodedLaws.{IsForOmf, for_omf}
-use Rattle.oc_omf_file.proofs.FixedLaws.{entries}
-use Rattle.oc_omf_file.proofs.ShowsLaw.{read, omf_shows}
-use Rattle.oc_omf_file.proofs.HeaderClean.{header_clean}
-use Rattle.oc_omf_file.proofs.SectionClean.{sections_clean}
-use Rattle.oc_omf_file.proofs.SymbolClean.{symbols_clean}
-use Rattle.oc_omf_file.proofs.RelocationClean.{relocations_clean}
+use Rattle.oc_omf.specs.{Entries.{entries_in}, SymbolFaults.{symbol_stages}, RelocationFaults.{relocation_stages}, Rules.{OmfIsDialect, stages_of, fault_of}}
+use Rattle.oc_omf_file.specs.{Canonical.{omf_file}, Writing.{OmfIsWritten}}
+use Rattle.oc_omf_file.proofs.{ListLemmas.{all_both}, CodedLaws.{IsForOmf, for_omf}, FixedLaws.{entries}, ShowsLaw.{read, omf_shows}}
+use Rattle.oc_omf_file.proofs.{HeaderClean.{header_clean}, SectionClean.{sections_clean}, SymbolClean.{symbols_clean}, RelocationClean.{relocations_clean}}
 
 pub well_formed : (n : Object) → IsForOmf n → fault_of (omf_file n) all ≡ None
 unfolding fault_of stages_of

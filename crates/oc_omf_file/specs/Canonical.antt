@@ -1,18 +1,11 @@
 -- The canonical file of an object that is ready for OMF (TIS OMF 1.1, "Record Formats"; our profile).
-use Rattle.std.specs.Prelude.{ℕ, ◌+◌, ◌*◌, ◌^◌, nat_eq, List, [], ◌∷◌, flat_map, slice_range, codes, true}
-use Rattle.std.specs.Option.{option_map_or}
-use Rattle.std.specs.List.{position_or_len}
-use Rattle.oc_linking.specs.declared.terms.Binding.{Binding}
-use Rattle.oc_linking.specs.declared.terms.Binding.TheVariants.{Local, Global, Undefined, Common, Weak}
-use Rattle.oc_neutral.specs.declared.section.Section.{Section}
-use Rattle.oc_neutral.specs.KeySymbols.{global_place}
-use Rattle.oc_neutral.specs.Normal.{Place}
-use Rattle.oc_neutral.specs.Objects.{Object}
+use Rattle.std.specs.{Prelude.{ℕ, ◌+◌, ◌*◌, ◌^◌, nat_eq, List, [], ◌∷◌, flat_map, slice_range, codes, true}, Option.{option_map_or}, List.{position_or_len}}
+use Rattle.oc_linking.specs.{declared.terms.Binding.{Binding}, declared.terms.Binding.TheVariants.{Local, Global, Undefined, Common, Weak}}
+use Rattle.oc_neutral.specs.{declared.section.Section.{Section}, KeySymbols.{global_place}, Normal.{Place}, Objects.{Object}}
 use Rattle.oc_omf.specs.declared.constants.TheConstants.{THEADR, LNAMES, SEGDEF, GRPDEF, EXTDEF, COMDEF, PUBDEF, LEDATA, FIXUPP, MODEND, COMBINE_PUBLIC}
-use Rattle.oc_omf.specs.declared.structures.Segment as read
 use Rattle.oc_omf.specs.Bytes.{wide, entry_bytes, name_bytes, index_bytes, segment_bytes, external_bytes, communal_bytes, public_bytes, data_bytes}
-use Rattle.oc_omf_file.specs.Names.{class_of, name_index}
-use Rattle.oc_omf_file.specs.Pieces.{fields_between}
+use Rattle.oc_omf.specs.declared.structures.Segment as read
+use Rattle.oc_omf_file.specs.{Names.{class_of, name_index}, Pieces.{fields_between}}
 use Rattle.oc_omf_file.specs.Outputs.{Output, Header, Names, Segment, Group, External, Communal, Public, Data, Fixups, End, outputs_of}
 use Rattle.oc_omf_file.specs.Fixups.{raw_of, field_fixup}
 

@@ -1,26 +1,14 @@
 -- The fields and the fixups of an output (TIS OMF 1.1, "FIXUPP: Fixup Record"; our profile).
-use Rattle.std.specs.Prelude.{ℕ, ◌+◌, ◌-◌, Bool, nat_eq, if◌then◌else◌, List, [], Option, Result, Ok, Err}
-use Rattle.std.specs.Option.{option_map, option_map_or}
-use Rattle.oc_base.specs.declared.format.Word.TheVariants.{W32}
-use Rattle.oc_base.specs.declared.format.Format.TheVariants.{Omf}
-use Rattle.oc_linking.specs.declared.terms.Patch.{Patch}
-use Rattle.oc_linking.specs.Images.{overlay}
-use Rattle.oc_algebra.specs.declared.fields.AddendTooWide.{AddendTooWide}
-use Rattle.oc_algebra.specs.Fields.{to_field_of}
+use Rattle.std.specs.{Prelude.{ℕ, ◌+◌, ◌-◌, Bool, nat_eq, if◌then◌else◌, List, [], Option, Result, Ok, Err}, Option.{option_map, option_map_or}}
+use Rattle.oc_base.specs.{declared.format.Word.TheVariants.{W32}, declared.format.Format.TheVariants.{Omf}}
+use Rattle.oc_linking.specs.{declared.terms.Patch.{Patch}, Images.{overlay}}
+use Rattle.oc_algebra.specs.{declared.fields.AddendTooWide.{AddendTooWide}, Fields.{to_field_of}}
 use Rattle.oc_chains.specs.declared.field.Field.{Field}
-use Rattle.oc_neutral.specs.declared.section.Section.{Section}
-use Rattle.oc_neutral.specs.declared.reloc.Reloc.{Reloc}
-use Rattle.oc_neutral.specs.declared.reloc.Target.{Target}
+use Rattle.oc_neutral.specs.{declared.section.Section.{Section}, declared.reloc.Reloc.{Reloc}, declared.reloc.Target.{Target}, Objects.{Object, reloc_at}}
+use Rattle.oc_neutral.specs.{Normal.{at_section}, Omf.Relocs.{FixupFrame, ByTarget, BySelf, fixup_row}, Rows.{Row, shift_of}, Spelling.{written_row}}
 use Rattle.oc_neutral.specs.declared.reloc.Target.TheVariants as target
-use Rattle.oc_neutral.specs.Objects.{Object, reloc_at}
-use Rattle.oc_shows.specs.Manners.{omf_manner}
-use Rattle.oc_neutral.specs.Normal.{at_section}
-use Rattle.oc_neutral.specs.Omf.Relocs.{FixupFrame, ByTarget, BySelf, fixup_row}
-use Rattle.oc_neutral.specs.Rows.{Row, shift_of}
-use Rattle.oc_shows.specs.Seen.{section_place}
-use Rattle.oc_neutral.specs.Spelling.{written_row}
-use Rattle.oc_omf.specs.declared.structures.Method.{Method}
-use Rattle.oc_omf.specs.declared.constants.TheConstants.{METHOD_SEGMENT, METHOD_GROUP, METHOD_EXTERNAL, FRAME_OF_TARGET}
+use Rattle.oc_shows.specs.{Manners.{omf_manner}, Seen.{section_place}}
+use Rattle.oc_omf.specs.{declared.structures.Method.{Method}, declared.constants.TheConstants.{METHOD_SEGMENT, METHOD_GROUP, METHOD_EXTERNAL, FRAME_OF_TARGET}}
 use Rattle.oc_omf.specs.Bytes.{fixup_bytes}
 use Rattle.oc_omf_file.specs.Outputs.{symbol_number}
 

@@ -1,10 +1,7 @@
 -- The names of an output, and the entries that hold them (TIS OMF 1.1, "LNAMES: List of Names Record"; our profile).
 use Rattle.std.specs.Prelude.{ℕ, ◌+◌, bytes_eq, nat_lt, if◌then◌else◌, List, [], ◌∷◌, ◌++◌, length, flat_map, fold, codes}
-use Rattle.std.specs.List.{list_any, sum_by, position_or_len}
-use Rattle.std.specs.Option.{unwrap_or}
-use Rattle.oc_neutral.specs.declared.section.Section.{Section}
-use Rattle.oc_neutral.specs.Objects.{Object}
-use Rattle.oc_neutral.specs.Omf.Kinds.{omf_class}
+use Rattle.std.specs.{List.{list_any, sum_by, position_or_len}, Option.{unwrap_or}}
+use Rattle.oc_neutral.specs.{declared.section.Section.{Section}, Objects.{Object}, Omf.Kinds.{omf_class}}
 use Rattle.oc_omf.specs.declared.constants.TheConstants.{MOST_ENTRY_BYTES}
 
 -- the class of a section

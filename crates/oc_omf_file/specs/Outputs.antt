@@ -1,13 +1,9 @@
 -- The entries of an output in their order, and the indexes by which they name one another (TIS OMF 1.1, "Record Formats"; our profile).
 use Rattle.std.specs.Prelude.{ℕ, Bool, false, nat_eq, if◌then◌else◌, List, [], ◌∷◌, ◌++◌, length, map, flat_map, filter_map, Option, Some, None}
 use Rattle.std.specs.List.{enumerate_from, position_or_len}
-use Rattle.oc_linking.specs.declared.terms.Binding.{Binding}
-use Rattle.oc_linking.specs.declared.terms.Binding.TheVariants.{Local, Global, Undefined, Common, Weak}
-use Rattle.oc_neutral.specs.declared.section.Section.{Section}
-use Rattle.oc_neutral.specs.declared.symbol.Symbol.{Symbol}
-use Rattle.oc_neutral.specs.Objects.{Object}
-use Rattle.oc_omf_file.specs.Names.{names_of, filled_from}
-use Rattle.oc_omf_file.specs.Pieces.{pieces_of, fields_between}
+use Rattle.oc_linking.specs.{declared.terms.Binding.{Binding}, declared.terms.Binding.TheVariants.{Local, Global, Undefined, Common, Weak}}
+use Rattle.oc_neutral.specs.{declared.section.Section.{Section}, declared.symbol.Symbol.{Symbol}, Objects.{Object}}
+use Rattle.oc_omf_file.specs.{Names.{names_of, filled_from}, Pieces.{pieces_of, fields_between}}
 
 -- an entry: sections and symbols by their positions in the object, data and their fixups by where the data begin and end
 pub data Output : Type 0 where

@@ -1,11 +1,7 @@
 -- The pieces in which the bytes of a section are written (our profile): no piece is too long for an entry, and none cuts a field.
-use Rattle.std.specs.Prelude.{ℕ, zero, suc, ◌+◌, ◌&&◌, Bool, nat_lt, nat_le, if◌then◌else◌, min, List, [], ◌∷◌, length, map, filter, find}
-use Rattle.std.specs.Option.{unwrap_or}
-use Rattle.oc_chains.specs.declared.field.Field.{Field}
-use Rattle.oc_chains.specs.Lists.{list_of}
-use Rattle.oc_neutral.specs.declared.section.Section.{Section}
-use Rattle.oc_neutral.specs.declared.reloc.Reloc.{Reloc}
-use Rattle.oc_neutral.specs.Objects.{Object}
+use Rattle.std.specs.{Prelude.{ℕ, zero, suc, ◌+◌, ◌&&◌, Bool, nat_lt, nat_le, if◌then◌else◌, min, List, [], ◌∷◌, length, map, filter, find}, Option.{unwrap_or}}
+use Rattle.oc_chains.specs.{declared.field.Field.{Field}, Lists.{list_of}}
+use Rattle.oc_neutral.specs.{declared.section.Section.{Section}, declared.reloc.Reloc.{Reloc}, Objects.{Object}}
 use Rattle.oc_omf.specs.declared.constants.TheConstants.{MOST_ENTRY_BYTES}
 
 -- the offsets of the fields of the section at a position

@@ -1,19 +1,12 @@
 -- How many bytes all segments have whose kind is not Zero.
 use Rattle.std.proofs.Common.{◌≡◌, ℕ, zero, suc, ◌+◌, ◌≤◌, inl, inr, Bool, true, false, cond, List, [], ◌∷◌, length, refl, sym, ◌∙◌, ap, arith}
-use Rattle.std.specs.Prelude.{slice_get}
-use Rattle.std.specs.List.{enumerate_from, sum_by}
-use Rattle.std.specs.Option.{option_map_or}
-use Rattle.std.proofs.lemmas.Bool.{cases_eq}
-use Rattle.std.proofs.lemmas.List.Sums.{sum_by-cons}
+use Rattle.std.specs.{Prelude.{slice_get}, List.{enumerate_from, sum_by}, Option.{option_map_or}}
+use Rattle.std.proofs.lemmas.{Bool.{cases_eq}, List.Sums.{sum_by-cons}}
 use Rattle.oc_linking.specs.declared.terms.Kind.TheVariants.{Zero}
 use Rattle.oc_neutral.specs.KindRules.{same_kind}
 use Rattle.oc_shelf.specs.Reading.Sums.{sum_upto}
-use Rattle.oc_omf_judge.specs.declared.defined.Defined.{Defined}
-use Rattle.oc_omf.specs.declared.structures.Segment.{Segment}
-use Rattle.oc_omf.specs.Tables.{Tables}
-use Rattle.oc_omf.specs.Sections.{segment_kind, segment_size}
-use Rattle.oc_omf.specs.SectionFaults.{all_bytes, bytes_size}
-use Rattle.oc_omf_judge.specs.Defined.{IsDefined, bytes_in}
+use Rattle.oc_omf_judge.specs.{declared.defined.Defined.{Defined}, Defined.{IsDefined, bytes_in}}
+use Rattle.oc_omf.specs.{declared.structures.Segment.{Segment}, Tables.{Tables}, Sections.{segment_kind, segment_size}, SectionFaults.{all_bytes, bytes_size}}
 
 sum_same : (f g : ℕ → ℕ) (n : ℕ) → ((i : ℕ) → f i ≡ g i) → sum_upto f n ≡ sum_upto g n
 sum_same f g zero same = refl

@@ -1,27 +1,18 @@
 -- Data in the contents of an entry, by their head.
 use Rattle.std.proofs.Common.{◌≡◌, ℕ, ◌≤◌, Bool, List, [], ◌∷◌, ◌++◌, length, Some, Result, Ok, Err, refl, sym, ◌∙◌, ap, subst, arith, append-nil}
 use Rattle.std.specs.Prelude.{drop}
-use Rattle.oc_base.specs.declared.code.Code.TheVariants.{BadTable}
-use Rattle.oc_base.specs.declared.stop.Stop.{Stop}
-use Rattle.oc_base.specs.Stops.{IsStop}
+use Rattle.oc_base.specs.{declared.code.Code.TheVariants.{BadTable}, declared.stop.Stop.{Stop}, Stops.{IsStop}}
 use Rattle.oc_linking.specs.FirstFault.{first_broken}
-use Rattle.oc_omf_records.specs.declared.faults.BlockFault.{BlockFault}
+use Rattle.oc_omf_records.specs.{declared.faults.BlockFault.{BlockFault}, Blocks.{Blocks}}
 use Rattle.oc_omf_records.specs.declared.faults.BlockFault.TheVariants as block
-use Rattle.oc_omf_records.specs.Blocks.{Blocks}
-use Rattle.oc_omf.specs.declared.cut.Cut.{Cut}
+use Rattle.oc_omf.specs.{declared.cut.Cut.{Cut}, declared.structures.DataHead.{DataHead}, Cursor.{Reading, index_read, next, number_read}}
+use Rattle.oc_omf.specs.{Structures.{Piece, blocks_by, head_read, long_size, piece_read}, Tables.{Tables}}
+use Rattle.oc_omf.specs.{SectionFaults.{conditions_by, conditions_on, own_fault, piece_conditions}, Topics.{said_on}}
 use Rattle.oc_omf_judge.specs.declared.defined.Defined.{Defined}
-use Rattle.oc_omf.specs.declared.structures.DataHead.{DataHead}
-use Rattle.oc_omf.specs.declared.topics.Topic.TheVariants as topic
-use Rattle.oc_omf.specs.Cursor.{Reading, index_read, next, number_read}
-use Rattle.oc_omf.specs.Structures.{Piece, blocks_by, head_read, long_size, piece_read}
-use Rattle.oc_omf.specs.Tables.{Tables}
-use Rattle.oc_omf.specs.SectionFaults.{conditions_by, conditions_on, own_fault, piece_conditions}
-use Rattle.oc_omf.specs.Topics.{said_on}
 use Rattle.oc_omf_judge.specs.Defined.{IsPieceStopped, IsPieceTaken, IsStoppedAt, IsTakenUp, and_entry, part_of, piece_with}
-use Rattle.oc_omf_judge.proofs.DefinedLemmas.{same_defined}
+use Rattle.oc_omf.specs.declared.topics.Topic.TheVariants as topic
+use Rattle.oc_omf_judge.proofs.{DefinedLemmas.{same_defined}, PieceLemmas.{headed, piece_headed}, StageLaws.{data_judged, whole_read}}
 use Rattle.oc_omf.proofs.EachLemmas.{next_goes, number_goes}
-use Rattle.oc_omf_judge.proofs.PieceLemmas.{headed, piece_headed}
-use Rattle.oc_omf_judge.proofs.StageLaws.{data_judged, whole_read}
 
 -- what is read behind the head lies in the contents
 pub head_inside : (wide : Bool) (b : List ℕ) (h : DataHead) (at : ℕ) → head_read wide b 0 ≡ Ok (h, at) → at ≤ length b

@@ -1,24 +1,14 @@
 -- What is kept while names, segments, groups and data are judged.
 use Rattle.std.proofs.Common.{◌≡◌, ℕ, zero, suc, ◌+◌, ◌<◌, ◌≤◌, ◌⊎◌, inl, inr, Bool, true, false, cond, ◌&&◌, ◌||◌, nat_eq, nat_lt, List, [], ◌∷◌, ◌++◌, length, map, Option, Some, refl, sym, ◌∙◌, ap, subst, arith}
-use Rattle.std.specs.Prelude.{get_or, slice_get, filter}
-use Rattle.std.specs.List.{list_any, sum_by}
-use Rattle.std.proofs.lemmas.Bool.{cases_lt}
-use Rattle.std.proofs.lemmas.Bool.Decides.{nat_tests}
-use Rattle.std.proofs.lemmas.List.{get_or_append_left, length-append, map-append}
-use Rattle.std.proofs.lemmas.List.Elements.{filter-append}
-use Rattle.std.proofs.lemmas.List.Folds.{list_any-append}
-use Rattle.std.proofs.lemmas.List.Sums.{sum_by-append}
-use Rattle.std.proofs.lemmas.Option.{none-some, same_Some}
+use Rattle.std.specs.{Prelude.{get_or, slice_get, filter}, List.{list_any, sum_by}}
+use Rattle.std.proofs.lemmas.{Bool.{cases_lt}, Bool.Decides.{nat_tests}, List.{get_or_append_left, length-append, map-append}, List.Elements.{filter-append}}
+use Rattle.std.proofs.lemmas.{List.Folds.{list_any-append}, List.Sums.{sum_by-append}, Option.{none-some, same_Some}}
 use Rattle.std.proofs.Math.Seq.{get_or-append_seam}
 use Rattle.oc_shelf.specs.Reading.Spans.{AreSpansOf}
 use Rattle.oc_shelf.proofs.ReadingLaws.SpanLemmas.{spans_none}
-use Rattle.oc_omf_judge.specs.declared.defined.Defined.{Defined}
-use Rattle.oc_omf.specs.declared.structures.Segment.{Segment}
-use Rattle.oc_omf.specs.Structures.{Group, Piece}
-use Rattle.oc_omf.specs.Tables.{Tables, indexed, tables_of}
-use Rattle.oc_omf.specs.Sections.{is_covered, piece_size, pieces_of, segment_size}
-use Rattle.oc_omf.specs.Known.{names_of}
-use Rattle.oc_omf_judge.specs.Defined.{IsDefined, IsSmall, piece_span, span_among}
+use Rattle.oc_omf_judge.specs.{declared.defined.Defined.{Defined}, Defined.{IsDefined, IsSmall, piece_span, span_among}}
+use Rattle.oc_omf.specs.{declared.structures.Segment.{Segment}, Structures.{Group, Piece}, Tables.{Tables, indexed, tables_of}}
+use Rattle.oc_omf.specs.{Sections.{is_covered, piece_size, pieces_of, segment_size}, Known.{names_of}}
 
 -- ... tables
 

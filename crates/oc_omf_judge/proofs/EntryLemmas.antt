@@ -1,33 +1,19 @@
 -- What is kept, behind an entry.
 use Rattle.std.proofs.Common.{◌≡◌, ℕ, suc, ◌+◌, Bool, true, false, List, [], ◌∷◌, ◌++◌, length, Option, Some, None, Ok, Err, refl, sym, ◌∙◌, ap, subst, arith, append-nil}
-use Rattle.std.specs.Prelude.{min, slice_get}
-use Rattle.std.specs.Option.{option_map}
-use Rattle.std.proofs.lemmas.List.{length-append}
-use Rattle.std.proofs.lemmas.Option.{none-some, same_Some}
+use Rattle.std.specs.{Prelude.{min, slice_get}, Option.{option_map}}
+use Rattle.std.proofs.lemmas.{List.{length-append}, Option.{none-some, same_Some}}
 use Rattle.oc_shelf.proofs.WritingLaws.MemberLemmas.{member_flat_map}
-use Rattle.oc_omf.specs.declared.cut.Cut.{Cut}
-use Rattle.oc_omf.specs.declared.topics.Topic.TheVariants as topic
-use Rattle.oc_omf.specs.Cursor.{Read, Reading}
-use Rattle.oc_omf.specs.Structures.{External, Piece, piece_read}
-use Rattle.oc_omf.specs.Entries.{Entry, all_read, in_file, says_nothing, whole}
-use Rattle.oc_omf.specs.Tables.{Tables, tables_of}
-use Rattle.oc_omf.specs.Fixups.{fixed_in, last_of}
-use Rattle.oc_omf.specs.Known.{AreInForce}
+use Rattle.oc_omf.specs.{declared.cut.Cut.{Cut}, Cursor.{Read, Reading}, Structures.{External, Piece, piece_read}}
+use Rattle.oc_omf.specs.{Entries.{Entry, all_read, in_file, says_nothing, whole}, Tables.{Tables, tables_of}, Fixups.{fixed_in, last_of}, Known.{AreInForce}}
 use Rattle.oc_omf.specs.Topics.{said_on}
-use Rattle.oc_omf_judge.specs.Defined.{and_entry, part_of}
-use Rattle.oc_omf.proofs.EachLemmas.{Goes}
-use Rattle.oc_omf_judge.proofs.GoesLemmas.{communal_goes, external_goes}
-use Rattle.oc_omf_judge.proofs.StageLaws.{read_in_file, whole_read}
-use Rattle.oc_omf_judge.specs.declared.counts.Counts.{Counts}
-use Rattle.oc_omf_judge.specs.declared.last_data.LastData.{LastData}
-use Rattle.oc_omf_judge.specs.declared.reached.Reached.{Reached}
-use Rattle.oc_omf_judge.specs.declared.whole.Whole.{Whole}
-use Rattle.oc_omf_judge.specs.Counts.{AreCounts, end_of, external_by}
-use Rattle.oc_omf_judge.specs.LastData.{IsLast, shown}
-use Rattle.oc_omf_judge.specs.Lying.{lying_of}
-use Rattle.oc_omf_judge.specs.Reached.{AreExternalsTaken, AreSmall, IsEntryTaken, judged_behind, last_in, placed_in}
-use Rattle.oc_omf_judge.specs.Starts.{AreStarts}
+use Rattle.oc_omf.specs.declared.topics.Topic.TheVariants as topic
+use Rattle.oc_omf_judge.specs.{Defined.{and_entry, part_of}, declared.counts.Counts.{Counts}, declared.last_data.LastData.{LastData}}
+use Rattle.oc_omf_judge.specs.{declared.reached.Reached.{Reached}, declared.whole.Whole.{Whole}, Counts.{AreCounts, end_of, external_by}}
+use Rattle.oc_omf_judge.specs.{LastData.{IsLast, shown}, Lying.{lying_of}}
+use Rattle.oc_omf_judge.specs.{Reached.{AreExternalsTaken, AreSmall, IsEntryTaken, judged_behind, last_in, placed_in}, Starts.{AreStarts}}
 use Rattle.oc_omf_judge.specs.Whole.{IsWhole, entries}
+use Rattle.oc_omf.proofs.EachLemmas.{Goes}
+use Rattle.oc_omf_judge.proofs.{GoesLemmas.{communal_goes, external_goes}, StageLaws.{read_in_file, whole_read}}
 
 -- ... counts
 

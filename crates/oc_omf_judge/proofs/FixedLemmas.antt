@@ -1,10 +1,8 @@
 -- The fixups among subrecords, with one subrecord more.
 use Rattle.std.proofs.Common.{◌≡◌, ℕ, List, [], ◌∷◌, ◌++◌, Result, Ok, Err, refl, sym, ◌∙◌, ap, append-nil, append_assoc}
-use Rattle.oc_omf.specs.declared.cut.Cut.{Cut}
-use Rattle.oc_omf.specs.declared.structures.Subrecord.{Subrecord}
-use Rattle.oc_omf.specs.declared.structures.Subrecord.TheVariants as subrecord
-use Rattle.oc_omf.specs.Tables.{Tables}
+use Rattle.oc_omf.specs.{declared.cut.Cut.{Cut}, declared.structures.Subrecord.{Subrecord}, Tables.{Tables}}
 use Rattle.oc_omf.specs.Fixups.{Fixed, PlacedSubrecord, fixed_from, fixed_in, with_fixed}
+use Rattle.oc_omf.specs.declared.structures.Subrecord.TheVariants as subrecord
 
 -- what comes behind a subrecord, in two parts
 with_more : (earlier : List PlacedSubrecord) (index at : ℕ) (part : Result Subrecord Cut) (before : Tables) (rest more : List Fixed)

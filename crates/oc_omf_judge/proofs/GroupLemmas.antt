@@ -1,15 +1,10 @@
 -- A group by its name.
 use Rattle.std.proofs.Common.{◌≡◌, ℕ, List, length, None, Some, Ok, Err, sym, ◌∙◌, ap}
-use Rattle.oc_base.specs.declared.code.Code.TheVariants.{BadTable}
-use Rattle.oc_base.specs.declared.fault.Fault.{Fault}
+use Rattle.oc_base.specs.{declared.code.Code.TheVariants.{BadTable}, declared.fault.Fault.{Fault}}
 use Rattle.oc_linking.specs.FirstFault.{Condition, first_broken}
-use Rattle.oc_omf.specs.declared.cut.Cut.{Cut}
-use Rattle.oc_omf_judge.specs.declared.defined.Defined.{Defined}
-use Rattle.oc_omf.specs.Cursor.{Reading, each_read, index_read, next}
-use Rattle.oc_omf.specs.Structures.{Group, group_read, member_read}
-use Rattle.oc_omf.specs.Tables.{Tables}
+use Rattle.oc_omf.specs.{declared.cut.Cut.{Cut}, Cursor.{Reading, each_read, index_read, next}, Structures.{Group, group_read, member_read}, Tables.{Tables}}
 use Rattle.oc_omf.specs.SectionFaults.{conditions_by, group_conditions, own_fault}
-use Rattle.oc_omf_judge.specs.Defined.{IsDefined, part_of}
+use Rattle.oc_omf_judge.specs.{declared.defined.Defined.{Defined}, Defined.{IsDefined, part_of}}
 use Rattle.oc_omf_judge.proofs.SegmentLemmas.{name_count}
 
 -- a group of that name

@@ -1,15 +1,10 @@
 -- The first fault of a module, by its stages.
 use Rattle.std.proofs.Common.{◌≡◌, ℕ, List, None, sym, ◌∙◌, ap, subst}
-use Rattle.oc_base.specs.declared.stop.Stop.{Stop}
+use Rattle.oc_base.specs.{declared.stop.Stop.{Stop}, Stops.{IsStop}}
 use Rattle.oc_base.specs.declared.stop.Stop.TheVariants as stop
-use Rattle.oc_base.specs.Stops.{IsStop}
-use Rattle.oc_linking.specs.declared.terms.Keep.{Keep}
-use Rattle.oc_linking.specs.Numbers.{or_else}
-use Rattle.oc_linking.specs.FirstFault.{first_fault}
+use Rattle.oc_linking.specs.{declared.terms.Keep.{Keep}, Numbers.{or_else}, FirstFault.{first_fault}}
 use Rattle.oc_shelf.proofs.ReadingLaws.StageLemmas.{first_fault-append}
-use Rattle.oc_omf.specs.Entries.{entries_in}
-use Rattle.oc_omf.specs.RelocationFaults.{relocation_stages}
-use Rattle.oc_omf.specs.Rules.{fault_of, stages_of}
+use Rattle.oc_omf.specs.{Entries.{entries_in}, RelocationFaults.{relocation_stages}, Rules.{fault_of, stages_of}}
 use Rattle.oc_omf_judge.specs.Judged.{front_stages}
 
 -- of the stages before relocations, and then of these

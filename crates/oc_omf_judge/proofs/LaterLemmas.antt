@@ -1,10 +1,8 @@
 -- Entries that the stage of sections does not judge.
 use Rattle.std.proofs.Common.{◌≡◌, ℕ, ◌++◌, false, [], ◌∙◌, ap, append-nil}
-use Rattle.oc_omf_judge.specs.declared.defined.Defined.{Defined}
+use Rattle.oc_omf_judge.specs.{declared.defined.Defined.{Defined}, Defined.{IsTakenUp, and_entry}}
 use Rattle.oc_omf.specs.Entries.{Entry, all_read}
-use Rattle.oc_omf_judge.specs.Defined.{IsTakenUp, and_entry}
-use Rattle.oc_omf_judge.proofs.DefinedLemmas.{same_defined}
-use Rattle.oc_omf_judge.proofs.StageLaws.{later_judged}
+use Rattle.oc_omf_judge.proofs.{DefinedLemmas.{same_defined}, StageLaws.{later_judged}}
 
 pub nothing_taken : (d : Defined) (x : ℕ × ℕ) (e : Entry) → e.names ≡ [] → e.segments ≡ [] → e.groups ≡ [] → e.pieces ≡ [] → e.ends ≡ false → IsTakenUp d x e d
 nothing_taken d x e n s g p f t is = (

@@ -1,18 +1,10 @@
 -- One definition more, by what a reader keeps of those that a module alone sees.
 use Rattle.std.proofs.Common.{◌≡◌, ℕ, Bool, true, false, cond, List, [], ◌∷◌, ◌++◌, Option, None, Some, refl, sym, ◌∙◌, ap}
-use Rattle.std.specs.Prelude.{◌&&◌, bytes_eq, is_some}
-use Rattle.std.specs.List.{find, list_any}
-use Rattle.std.specs.Map.{update}
-use Rattle.std.specs.Option.{option_map, option_or}
-use Rattle.std.proofs.lemmas.Bool.{true≢false, and_parts}
-use Rattle.std.proofs.lemmas.List.Folds.{find-append}
-use Rattle.std.proofs.lemmas.Slice.Eq.{bytes_eq-Decides}
-use Rattle.oc_omf.specs.Structures.{Public}
-use Rattle.oc_omf.specs.Symbols.{agree, public_mention, same_symbol}
-use Rattle.oc_omf_judge.specs.Held.{Held, value_at}
+use Rattle.std.specs.{Prelude.{◌&&◌, bytes_eq, is_some}, List.{find, list_any}, Map.{update}, Option.{option_map, option_or}}
+use Rattle.std.proofs.lemmas.{Bool.{true≢false, and_parts}, List.Folds.{find-append}, Slice.Eq.{bytes_eq-Decides}}
+use Rattle.oc_omf.specs.{Structures.{Public}, Symbols.{agree, public_mention, same_symbol}}
+use Rattle.oc_omf_judge.specs.{Held.{Held, value_at}, EarlierSymbols.{AreNamed}, Locals.{AreLocals, local_mention}}
 use Rattle.oc_omf_judge.proofs.SeenSteps.{same_way}
-use Rattle.oc_omf_judge.specs.EarlierSymbols.{AreNamed}
-use Rattle.oc_omf_judge.specs.Locals.{AreLocals, local_mention}
 
 -- the first definition that this module alone sees under a name
 abbrev first_local : List ℕ → List Public → Option Public

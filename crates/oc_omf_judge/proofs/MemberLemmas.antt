@@ -1,10 +1,8 @@
 -- What is wrong with the members of a group, one after another.
 use Rattle.std.proofs.Common.{◌≡◌, ℕ, Bool, true, false, ◌||◌, not, nat_eq, nat_lt, List, ◌∷◌, Ok, refl, ◌∙◌, ap}
 use Rattle.std.proofs.Math.Bool.{or-false}
-use Rattle.oc_omf.specs.declared.constants.TheConstants.{SEGMENT_INDEX}
-use Rattle.oc_omf_judge.specs.declared.groups.Members.{Members}
-use Rattle.oc_omf.specs.Cursor.{Read}
-use Rattle.oc_omf_judge.specs.Members.{members_in}
+use Rattle.oc_omf.specs.{declared.constants.TheConstants.{SEGMENT_INDEX}, Cursor.{Read}}
+use Rattle.oc_omf_judge.specs.{declared.groups.Members.{Members}, Members.{members_in}}
 use Rattle.oc_target.proofs.Marking.{or_assoc}
 
 -- what is wrong with one or another

@@ -1,17 +1,11 @@
 -- The symbols that a module mentions, by their numbers.
 use Rattle.std.proofs.Common.{◌≡◌, ℕ, zero, suc, ◌+◌, Bool, true, false, cond, List, [], ◌∷◌, ◌++◌, map, Some, refl, sym, ◌∙◌, ap, subst, arith}
-use Rattle.std.specs.Prelude.{◌&&◌, ◌||◌, eqb, not, bytes_eq, flat_map, fold, nat_eq, slice_get}
-use Rattle.std.specs.List.{enumerate_from, list_any}
-use Rattle.std.proofs.lemmas.Bool.{true≢false, and_parts}
-use Rattle.std.proofs.lemmas.Bool.Decides.{nat_tests}
-use Rattle.std.proofs.lemmas.Option.{none-some, same_Some}
-use Rattle.std.proofs.lemmas.Slice.Eq.{bytes_eq-Decides}
+use Rattle.std.specs.{Prelude.{◌&&◌, ◌||◌, eqb, not, bytes_eq, flat_map, fold, nat_eq, slice_get}, List.{enumerate_from, list_any}}
+use Rattle.std.proofs.lemmas.{Bool.{true≢false, and_parts}, Bool.Decides.{nat_tests}, Option.{none-some, same_Some}, Slice.Eq.{bytes_eq-Decides}}
 use Rattle.std.proofs.lemmas.List.Folds.{list_any-append}
 use Rattle.oc_linking.specs.Values.{numbered}
 use Rattle.oc_shelf.proofs.WritingLaws.MemberLemmas.{each_flat_map, member_flat_map, member_map, member_second}
-use Rattle.oc_omf.specs.Structures.{External}
-use Rattle.oc_omf.specs.Entries.{Entry, all_read}
-use Rattle.oc_omf.specs.Tables.{Tables, tables_of}
+use Rattle.oc_omf.specs.{Structures.{External}, Entries.{Entry, all_read}, Tables.{Tables, tables_of}}
 use Rattle.oc_omf.specs.Symbols.{Mention, agree, entry_mentions, external_mention, mentions_in, number_of, public_mention, same_symbol, symbol_of, with_new}
 
 -- ... one symbol

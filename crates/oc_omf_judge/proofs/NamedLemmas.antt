@@ -1,29 +1,18 @@
 -- What frames and targets name is what a reader keeps of it.
 use Rattle.std.proofs.Common.{◌≡◌, ℕ, ◌-◌, Bool, true, false, cond, List, [], ◌∷◌, map, Option, None, Some, refl, sym, ◌∙◌, ap}
-use Rattle.std.specs.Prelude.{if◌then◌else◌, nat_eq, slice_get}
-use Rattle.std.specs.List.{enumerate_from, find}
-use Rattle.std.specs.Option.{option_and_then, option_map, option_map_or}
+use Rattle.std.specs.{Prelude.{if◌then◌else◌, nat_eq, slice_get}, List.{enumerate_from, find}, Option.{option_and_then, option_map, option_map_or}}
 use Rattle.std.proofs.lemmas.Option.{none-some, same_Some, slice_get-map}
 use denote.Ref.{Bor}
-use Rattle.oc_linking.specs.declared.terms.Binding.TheVariants.{Undefined, Common}
-use Rattle.oc_linking.specs.Rules.{Symbolic, Sectional}
-use Rattle.oc_linking.specs.Rules.{Named as Shown}
-use Rattle.oc_linking.specs.Values.{numbered}
+use Rattle.oc_linking.specs.{declared.terms.Binding.TheVariants.{Undefined, Common}, Rules.{Symbolic, Sectional}, Rules.{Named as Shown}, Values.{numbered}}
 use Rattle.oc_linking.specs.Targets.{Target, named_by, symbol_target}
 use Rattle.oc_neutral.specs.Powers.{natural_align}
-use Rattle.oc_omf_judge.specs.declared.earlier.External.{External as Mentioned}
-use Rattle.oc_omf.specs.declared.structures.Method.{Method}
-use Rattle.oc_omf_judge.specs.Held.{Held, value_at}
-use Rattle.oc_omf.specs.Structures.{External, Public}
-use Rattle.oc_omf.specs.Tables.{Tables, indexed}
+use Rattle.oc_omf_judge.specs.{declared.earlier.External.{External as Mentioned}, Held.{Held, value_at}, EarlierSymbols.{mention_of}}
+use Rattle.oc_omf_judge.specs.{declared.whole.Whole.{Whole}, Locals.{AreLocals}, Named.{named_external, named_of, named_symbol, section_at, shown}}
+use Rattle.oc_omf_judge.specs.Whole.{IsWhole, entries, meaning, tables}
+use Rattle.oc_omf.specs.{declared.structures.Method.{Method}, Structures.{External, Public}, Tables.{Tables, indexed}}
 use Rattle.oc_omf.specs.Symbols.{Mention, binding_of, communal_of, external_mention, mentions_in, number_of, public_binding, public_mention, public_of, same_symbol, symbol_of, symbols_in}
 use Rattle.oc_omf.specs.Targets.{external_at, meaning_of, section_target, target_of}
-use Rattle.oc_omf_judge.specs.EarlierSymbols.{mention_of}
 use Rattle.oc_omf_judge.specs.declared.named.Named.TheVariants as named
-use Rattle.oc_omf_judge.specs.declared.whole.Whole.{Whole}
-use Rattle.oc_omf_judge.specs.Locals.{AreLocals}
-use Rattle.oc_omf_judge.specs.Named.{named_external, named_of, named_symbol, section_at, shown}
-use Rattle.oc_omf_judge.specs.Whole.{IsWhole, entries, meaning, tables}
 use Rattle.oc_omf_judge.proofs.MentionLemmas.{IsAmong, external_mentioned, numbered_among, same_is}
 
 -- ... symbols

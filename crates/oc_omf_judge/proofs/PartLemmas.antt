@@ -1,34 +1,21 @@
 -- Threads and fixups that follow one another, each judged behind those before it.
 use Rattle.std.proofs.Common.{◌≡◌, ℕ, ◌+◌, ◌<◌, ◌≤◌, Bool, List, [], ◌∷◌, ◌++◌, length, take, Option, Some, None, Ok, Err, refl, sym, ◌∙◌, ap, subst, arith, append-nil, append_assoc}
-use Rattle.std.specs.Prelude.{flat_map, slice_get}
-use Rattle.std.specs.List.{enumerate_from}
+use Rattle.std.specs.{Prelude.{flat_map, slice_get}, List.{enumerate_from}}
 use Rattle.std.proofs.lemmas.Grind.{flat_map-append}
-use Rattle.oc_base.specs.declared.code.Code.TheVariants.{BadTable}
-use Rattle.oc_base.specs.declared.fault.Fault.{Fault}
-use Rattle.oc_base.specs.declared.stop.Stop.{Stop}
+use Rattle.oc_base.specs.{declared.code.Code.TheVariants.{BadTable}, declared.fault.Fault.{Fault}, declared.stop.Stop.{Stop}, Stops.{IsStop}}
 use Rattle.oc_base.specs.declared.stop.Stop.TheVariants as stop
-use Rattle.oc_base.specs.Stops.{IsStop}
-use Rattle.oc_linking.specs.Numbers.{first_upto, or_else}
-use Rattle.oc_linking.specs.FirstFault.{first_broken, first_fault, stage_fault}
+use Rattle.oc_linking.specs.{Numbers.{first_upto, or_else}, FirstFault.{first_broken, first_fault, stage_fault}}
 use Rattle.oc_neutral.proofs.FieldLists.{take_here}
 use Rattle.oc_neutral.specs.TargetSections.{each_of}
-use Rattle.oc_shelf.proofs.WritingLaws.MemberLemmas.{member_enumerated}
-use Rattle.oc_shelf.proofs.ReadingLaws.StageLemmas.{first_upto-head, first_upto-same}
-use Rattle.oc_omf.specs.declared.constants.TheConstants.{ENTRY_HEAD}
-use Rattle.oc_omf.specs.declared.cut.Cut.{Cut}
-use Rattle.oc_omf.specs.declared.structures.Subrecord.{Subrecord}
-use Rattle.oc_omf.specs.Structures.{subrecord_read}
-use Rattle.oc_omf.specs.Entries.{Entry, in_file}
-use Rattle.oc_omf.specs.Tables.{Tables, tables_of}
+use Rattle.oc_shelf.proofs.{WritingLaws.MemberLemmas.{member_enumerated}, ReadingLaws.StageLemmas.{first_upto-head, first_upto-same}}
+use Rattle.oc_omf.specs.{declared.constants.TheConstants.{ENTRY_HEAD}, declared.cut.Cut.{Cut}, declared.structures.Subrecord.{Subrecord}}
+use Rattle.oc_omf.specs.{Structures.{subrecord_read}, Entries.{Entry, in_file}, Tables.{Tables, tables_of}}
 use Rattle.oc_omf.specs.Fixups.{PlacedSubrecord, subrecords_by, subrecords_upto}
 use Rattle.oc_omf.specs.RelocationFaults.{relocation_conditions, relocation_stage, relocation_stages}
 use Rattle.oc_omf.proofs.EachLemmas.{each_cut, each_end, each_from, each_more}
-use Rattle.oc_omf_judge.proofs.SymbolStages.{staged, verdict_at}
-use Rattle.oc_omf_judge.specs.declared.reached.Reached.{Reached}
-use Rattle.oc_omf_judge.specs.declared.whole.Whole.{Whole}
-use Rattle.oc_omf_judge.specs.Reached.{IsReached, judged_behind, placed_at, placed_in, relocation_fault}
-use Rattle.oc_omf_judge.specs.Whole.{entries, meaning}
-use Rattle.oc_omf_judge.proofs.SubrecordLemmas.{subrecord_goes}
+use Rattle.oc_omf_judge.proofs.{SymbolStages.{staged, verdict_at}, SubrecordLemmas.{subrecord_goes}}
+use Rattle.oc_omf_judge.specs.{declared.reached.Reached.{Reached}, declared.whole.Whole.{Whole}}
+use Rattle.oc_omf_judge.specs.{Reached.{IsReached, judged_behind, placed_at, placed_in, relocation_fault}, Whole.{entries, meaning}}
 
 -- ... a walk along the subrecords of an entry
 

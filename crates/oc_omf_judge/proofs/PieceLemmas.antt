@@ -1,31 +1,20 @@
 -- Data, judged behind what is kept.
 use Rattle.std.proofs.Common.{◌≡◌, ℕ, zero, suc, ◌+◌, ◌-◌, ◌<◌, ◌≤◌, Bool, true, false, cond, inl, inr, ◌&&◌, ◌||◌, not, nat_eq, nat_le, nat_lt, List, [], ◌∷◌, ◌++◌, length, min, Option, Some, None, Ok, Err, refl, sym, ◌∙◌, ap, arith}
-use Rattle.std.specs.Prelude.{◌≢◌, drop, get_or, slice_get}
+use Rattle.std.specs.{Prelude.{◌≢◌, drop, get_or, slice_get}, List.{list_any}, Option.{option_map_or}}
 use Rattle.std.proofs.Math.ListN.{set}
-use Rattle.std.specs.List.{list_any}
-use Rattle.std.specs.Option.{option_map_or}
-use Rattle.std.proofs.lemmas.Bool.{cases_eq}
-use Rattle.std.proofs.lemmas.Bool.Decides.{nat_tests}
-use Rattle.std.proofs.lemmas.List.{get_or-set_other, get_or-set_same, length-set}
+use Rattle.std.proofs.lemmas.{Bool.{cases_eq}, Bool.Decides.{nat_tests}, List.{get_or-set_other, get_or-set_same, length-set}}
 use Rattle.std.proofs.lemmas.Option.{none-some, same_Some, slice_get_within}
 use Rattle.oc_base.specs.declared.code.Code.TheVariants.{BadIndex, TooDeep, DataPastEnd, DataOverlap}
 use Rattle.oc_linking.specs.FirstFault.{first_broken}
-use Rattle.oc_shelf.specs.Reading.Firsts.{any_upto}
-use Rattle.oc_shelf.specs.Reading.Spans.{AreSpansOf, IsMet, end_at, meets}
+use Rattle.oc_shelf.specs.{Reading.Firsts.{any_upto}, Reading.Spans.{AreSpansOf, IsMet, end_at, meets}}
 use Rattle.oc_shelf.proofs.ReadingLaws.SpanLemmas.{met_upto, spans_more, spans_same}
 use Rattle.oc_omf_records.specs.declared.faults.BlockFault.TheVariants as block
 use Rattle.oc_omf_records.specs.Blocks.{Blocks, size_of}
-use Rattle.oc_omf_judge.specs.declared.defined.Defined.{Defined}
-use Rattle.oc_omf.specs.declared.structures.DataHead.{DataHead}
-use Rattle.oc_omf.specs.declared.structures.Segment.{Segment}
-use Rattle.oc_omf.specs.Cursor.{Reading, index_read, next, number_read}
-use Rattle.oc_omf.specs.Structures.{Piece, blocks_by, head_read, long_size, piece_read}
-use Rattle.oc_omf.specs.Tables.{Tables, indexed, is_indexed}
-use Rattle.oc_omf.specs.Sections.{piece_size, pieces_of, segment_size, size_at}
-use Rattle.oc_omf.specs.SectionFaults.{own_fault, piece_conditions, pieces_meet}
-use Rattle.oc_omf_judge.specs.Defined.{IsDefined, IsSmall, piece_span, piece_with, place_in, span_among}
-use Rattle.oc_omf_judge.proofs.DefinedLemmas.{last_span, piece_taken, spans_among}
-use Rattle.oc_omf_judge.proofs.SpanQuestions.{met_among}
+use Rattle.oc_omf_judge.specs.{declared.defined.Defined.{Defined}, Defined.{IsDefined, IsSmall, piece_span, piece_with, place_in, span_among}}
+use Rattle.oc_omf.specs.{declared.structures.DataHead.{DataHead}, declared.structures.Segment.{Segment}, Cursor.{Reading, index_read, next, number_read}}
+use Rattle.oc_omf.specs.{Structures.{Piece, blocks_by, head_read, long_size, piece_read}, Tables.{Tables, indexed, is_indexed}}
+use Rattle.oc_omf.specs.{Sections.{piece_size, pieces_of, segment_size, size_at}, SectionFaults.{own_fault, piece_conditions, pieces_meet}}
+use Rattle.oc_omf_judge.proofs.{DefinedLemmas.{last_span, piece_taken, spans_among}, SpanQuestions.{met_among}}
 
 -- data, by their head
 abbrev pub headed : Bool → Bool → List ℕ → Reading DataHead → Reading Piece

@@ -1,50 +1,30 @@
 -- One thread or fixup more, behind what a reader keeps.
 use Rattle.std.proofs.Common.{◌≡◌, ℕ, ◌+◌, ◌<◌, Bool, true, false, cond, List, [], ◌∷◌, ◌++◌, Option, None, Some, Ok, refl, sym, ◌∙◌, ap, subst, arith}
-use Rattle.std.specs.Prelude.{◌||◌, if◌then◌else◌, nat_eq, not, slice_get}
-use Rattle.std.specs.List.{list_any}
+use Rattle.std.specs.{Prelude.{◌||◌, if◌then◌else◌, nat_eq, not, slice_get}, List.{list_any}}
 use Rattle.std.specs.Option.{is_some, option_and_then, option_map, option_map_or, unwrap_or}
 use Rattle.std.proofs.lemmas.Option.{get_or_from_slice_get, none-some, slice_get_within}
-use Rattle.oc_base.specs.declared.code.Code.TheVariants.{BadOffset, BadTarget, Overlap, RelocKind, TargetKind}
-use Rattle.oc_base.specs.declared.fault.Fault.{Fault}
-use Rattle.oc_base.specs.declared.stop.Stop.{Stop}
+use Rattle.oc_base.specs.{declared.code.Code.TheVariants.{BadOffset, BadTarget, Overlap, RelocKind, TargetKind}, declared.fault.Fault.{Fault}}
+use Rattle.oc_base.specs.{declared.stop.Stop.{Stop}, Stops.{IsStop}}
 use Rattle.oc_base.specs.declared.stop.Stop.TheVariants as stop
-use Rattle.oc_base.specs.Stops.{IsStop}
-use Rattle.oc_linking.specs.Numbers.{or_else}
-use Rattle.oc_linking.specs.FirstFault.{Condition, first_broken}
+use Rattle.oc_linking.specs.{Numbers.{or_else}, FirstFault.{Condition, first_broken}}
 use Rattle.oc_shelf.proofs.WritingLaws.MemberLemmas.{of_map}
 use Rattle.oc_omf_records.specs.Blocks.{copies_of, moved, size_of}
 use Rattle.oc_omf_records.proofs.CopyLemmas.{IsWithin, copies_of-within}
-use Rattle.oc_omf.specs.declared.constants.TheConstants.{OFFSET_32}
-use Rattle.oc_omf.specs.declared.structures.Datum.{Datum}
-use Rattle.oc_omf.specs.declared.structures.Datum.TheVariants as datum
-use Rattle.oc_omf.specs.declared.structures.Fixup.{Fixup}
-use Rattle.oc_omf.specs.declared.structures.Subrecord.TheVariants as subrecord
-use Rattle.oc_omf.specs.declared.structures.Thread.{Thread}
-use Rattle.oc_omf.specs.declared.threads.Threads.{Threads}
-use Rattle.oc_omf.specs.Structures.{Piece}
-use Rattle.oc_omf.specs.Tables.{Tables, is_there}
-use Rattle.oc_omf.specs.Sections.{blocks_in}
-use Rattle.oc_omf.specs.Fixups.{Fixed, PlacedSubrecord, copies_for, fixed_in, fixed_of, is_inside, last_of, meet, method_of}
-use Rattle.oc_omf.specs.Fields.{aim_of}
-use Rattle.oc_omf.specs.Known.{AreInForce, IsThreadTaken}
-use Rattle.oc_omf.specs.Targets.{meaning_of}
+use Rattle.oc_omf.specs.{declared.constants.TheConstants.{OFFSET_32}, declared.structures.Datum.{Datum}, declared.structures.Fixup.{Fixup}}
+use Rattle.oc_omf.specs.{declared.structures.Thread.{Thread}, declared.threads.Threads.{Threads}, Structures.{Piece}, Tables.{Tables, is_there}}
+use Rattle.oc_omf.specs.{Sections.{blocks_in}, Fixups.{Fixed, PlacedSubrecord, copies_for, fixed_in, fixed_of, is_inside, last_of, meet, method_of}}
+use Rattle.oc_omf.specs.{Fields.{aim_of}, Known.{AreInForce, IsThreadTaken}, Targets.{meaning_of}}
 use Rattle.oc_omf.specs.RelocationFaults.{fixup_conditions, is_datum_there, relocation_conditions}
+use Rattle.oc_omf.specs.declared.structures.Datum.TheVariants as datum
+use Rattle.oc_omf.specs.declared.structures.Subrecord.TheVariants as subrecord
 use Rattle.oc_omf.specs.RelocationFaults as faults
-use Rattle.oc_omf_judge.proofs.StateLaws.{force_stays, force_thread}
-use Rattle.oc_omf_judge.specs.declared.reached.Reached.{Reached}
-use Rattle.oc_omf_judge.specs.declared.starts.Starts.{Starts}
-use Rattle.oc_omf_judge.specs.declared.whole.Whole.{Whole}
-use Rattle.oc_omf_judge.specs.Counts.{AreCounts}
-use Rattle.oc_omf_judge.specs.Fixups.{AreFieldsStopped, AreFieldsTaken, names_fault}
-use Rattle.oc_omf_judge.specs.Lying.{IsLow, Lying, base, copies_in, lying_of}
-use Rattle.oc_omf_judge.specs.Reached.{IsReached, IsSame, base_in, last_in, placed_at, relocation_fault}
-use Rattle.oc_omf_judge.specs.Rows.{has_row}
-use Rattle.oc_omf_judge.specs.Starts.{AreStarts, IsLowField, IsMet, is_among, is_start, starts_at}
-use Rattle.oc_omf_judge.specs.Threads.{method_by}
-use Rattle.oc_omf_judge.specs.Whole.{IsWhole, is_judged, is_judged_in, meaning, tables}
-use Rattle.oc_omf_judge.proofs.FixedLemmas.{fixed_more}
-use Rattle.oc_omf_judge.proofs.RowLemmas.{row_is}
+use Rattle.oc_omf_judge.proofs.{StateLaws.{force_stays, force_thread}, FixedLemmas.{fixed_more}, RowLemmas.{row_is}}
 use Rattle.oc_omf_judge.proofs.StartLemmas.{begins_among, free_meets, met_meets, starts_more, starts_stay}
+use Rattle.oc_omf_judge.specs.{declared.reached.Reached.{Reached}, declared.starts.Starts.{Starts}, declared.whole.Whole.{Whole}, Counts.{AreCounts}}
+use Rattle.oc_omf_judge.specs.{Fixups.{AreFieldsStopped, AreFieldsTaken, names_fault}, Lying.{IsLow, Lying, base, copies_in, lying_of}}
+use Rattle.oc_omf_judge.specs.{Reached.{IsReached, IsSame, base_in, last_in, placed_at, relocation_fault}, Rows.{has_row}}
+use Rattle.oc_omf_judge.specs.{Starts.{AreStarts, IsLowField, IsMet, is_among, is_start, starts_at}, Threads.{method_by}}
+use Rattle.oc_omf_judge.specs.Whole.{IsWhole, is_judged, is_judged_in, meaning, tables}
 
 -- ... what indexes name
 

@@ -1,32 +1,21 @@
 -- A fixup has a row exactly where it has one by what a reader keeps.
 use Rattle.std.proofs.Common.{◌≡◌, ℕ, ◌-◌, Bool, true, false, cond, List, [], Option, None, Some, refl, sym, ◌∙◌, ap, subst}
-use Rattle.std.specs.Prelude.{◌&&◌, ◌||◌, bytes_eq, codes, nat_eq}
-use Rattle.std.specs.Option.{is_some, option_and_then, option_map, option_map_or, unwrap_or}
+use Rattle.std.specs.{Prelude.{◌&&◌, ◌||◌, bytes_eq, codes, nat_eq}, Option.{is_some, option_and_then, option_map, option_map_or, unwrap_or}}
 use Rattle.std.proofs.lemmas.Option.{none-some}
 use denote.Ref.{Bor}
-use Rattle.oc_linking.specs.Rules.{Sectional}
-use Rattle.oc_linking.specs.Rules.{Named as Shown}
-use Rattle.oc_linking.specs.Targets.{Target}
+use Rattle.oc_linking.specs.{Rules.{Sectional}, Rules.{Named as Shown}, Targets.{Target}}
 use Rattle.oc_neutral.specs.Omf.Relocs.{ByFlat, ByTarget, BySelf, fixup_row}
-use Rattle.oc_omf_judge.specs.declared.earlier.External.{External as Mentioned}
-use Rattle.oc_omf.specs.declared.structures.Method.{Method}
-use Rattle.oc_omf_judge.specs.Held.{Held, value_at}
-use Rattle.oc_omf.specs.Structures.{External, Group, Piece}
-use Rattle.oc_omf.specs.Tables.{indexed, name_at}
-use Rattle.oc_omf.specs.Symbols.{Mention, external_mention, mentions_in}
-use Rattle.oc_omf.specs.Fixups.{Fixed}
-use Rattle.oc_omf.specs.Fields.{aim_of, framed_row, row_of}
-use Rattle.oc_omf.specs.Targets.{frame_of, is_flat, is_named_by, meaning_of, same_named, target_of}
-use Rattle.oc_omf_judge.specs.EarlierSymbols.{mention_of}
-use Rattle.oc_omf.specs.RelocationFaults as faults
-use Rattle.oc_omf_judge.specs.declared.named.Named.{Named}
-use Rattle.oc_omf_judge.specs.declared.named.Named.TheVariants as named
-use Rattle.oc_omf_judge.specs.declared.whole.Whole.{Whole}
+use Rattle.oc_omf_judge.specs.{declared.earlier.External.{External as Mentioned}, Held.{Held, value_at}, EarlierSymbols.{mention_of}}
+use Rattle.oc_omf_judge.specs.{declared.named.Named.{Named}, declared.whole.Whole.{Whole}}
 use Rattle.oc_omf_judge.specs.Named.{named_external, named_of, named_symbol, same, section_at, shown}
-use Rattle.oc_omf_judge.specs.Rows as rows
 use Rattle.oc_omf_judge.specs.Whole.{IsWhole, entries, is_flat_group, meaning, tables}
-use Rattle.oc_omf_judge.proofs.MentionLemmas.{IsAmong, same_number}
-use Rattle.oc_omf_judge.proofs.NamedLemmas.{external_there, indexed-map, named_is}
+use Rattle.oc_omf.specs.{declared.structures.Method.{Method}, Structures.{External, Group, Piece}, Tables.{indexed, name_at}}
+use Rattle.oc_omf.specs.{Symbols.{Mention, external_mention, mentions_in}, Fixups.{Fixed}, Fields.{aim_of, framed_row, row_of}}
+use Rattle.oc_omf.specs.Targets.{frame_of, is_flat, is_named_by, meaning_of, same_named, target_of}
+use Rattle.oc_omf.specs.RelocationFaults as faults
+use Rattle.oc_omf_judge.specs.declared.named.Named.TheVariants as named
+use Rattle.oc_omf_judge.specs.Rows as rows
+use Rattle.oc_omf_judge.proofs.{MentionLemmas.{IsAmong, same_number}, NamedLemmas.{external_there, indexed-map, named_is}}
 
 -- ... two that are one
 

@@ -1,29 +1,17 @@
 -- What is kept, behind an entry.
 use Rattle.std.proofs.Common.{◌≡◌, ℕ, Bool, true, false, List, [], ◌∷◌, ◌++◌, length, map, Some, None, Ok, Err, refl, sym, ◌∙◌, ap, subst, append-nil}
-use Rattle.std.proofs.lemmas.List.{length-map, map-append}
-use Rattle.std.proofs.lemmas.Option.{none-some}
-use Rattle.oc_base.specs.declared.stop.Stop.{Stop}
-use Rattle.oc_base.specs.Stops.{IsStop}
+use Rattle.std.proofs.lemmas.{List.{length-map, map-append}, Option.{none-some}}
+use Rattle.oc_base.specs.{declared.stop.Stop.{Stop}, Stops.{IsStop}}
 use Rattle.oc_linking.specs.FirstFault.{first_broken}
-use Rattle.oc_omf.specs.declared.cut.Cut.{Cut}
-use Rattle.oc_omf_judge.specs.declared.earlier.EarlierSymbols.{EarlierSymbols}
-use Rattle.oc_omf.specs.declared.structures.Segment.{Segment}
-use Rattle.oc_omf.specs.declared.topics.Topic.TheVariants as topic
-use Rattle.oc_omf.specs.Cursor.{Reading, each_read, index_read}
+use Rattle.oc_omf.specs.{declared.cut.Cut.{Cut}, declared.structures.Segment.{Segment}, Cursor.{Reading, each_read, index_read}}
 use Rattle.oc_omf.specs.declared.structures.PublicBase.{PublicBase}
 use Rattle.oc_omf.specs.Structures.{Group, base_read, communal_read, external_read, group_read, public_read, segment_read}
-use Rattle.oc_omf.specs.Entries.{Entry, all_read, in_file, whole}
-use Rattle.oc_omf.specs.Tables.{Tables}
-use Rattle.oc_omf.specs.Symbols.{external_mention}
-use Rattle.oc_omf.specs.SymbolFaults.{base_conditions}
+use Rattle.oc_omf.specs.{Entries.{Entry, all_read, in_file, whole}, Tables.{Tables}, Symbols.{external_mention}, SymbolFaults.{base_conditions}}
 use Rattle.oc_omf.specs.Topics.{publics_on, said_on}
-use Rattle.oc_omf_judge.specs.Defined.{and_entry, part_of}
-use Rattle.oc_omf_judge.specs.Held.{Held}
-use Rattle.oc_omf_judge.specs.Locals.{AreLocals, AreLocated}
+use Rattle.oc_omf_judge.specs.{declared.earlier.EarlierSymbols.{EarlierSymbols}, Defined.{and_entry, part_of}, Held.{Held}, Locals.{AreLocals, AreLocated}}
 use Rattle.oc_omf_judge.specs.EarlierSymbols.{AreCommunal, AreExternalsStopped, AreExternalsTaken, AreNamed, IsEntrySeen, IsEntryStopped, AreEarlierSymbols, mention_of}
-use Rattle.oc_omf_judge.proofs.GroupLemmas.{group_named, group_with, none_of}
-use Rattle.oc_omf_judge.proofs.SeenLemmas.{symbols_judged}
-use Rattle.oc_omf_judge.proofs.StageLaws.{read_in_file, whole_read}
+use Rattle.oc_omf.specs.declared.topics.Topic.TheVariants as topic
+use Rattle.oc_omf_judge.proofs.{GroupLemmas.{group_named, group_with, none_of}, SeenLemmas.{symbols_judged}, StageLaws.{read_in_file, whole_read}}
 
 -- what is kept speaks of segments, groups, definitions and externals alone
 pub same_seen : (t u : Tables) (s : EarlierSymbols) → AreEarlierSymbols t s → u.segments ≡ t.segments → u.groups ≡ t.groups → u.publics ≡ t.publics → u.externals ≡ t.externals → AreEarlierSymbols u s

@@ -1,23 +1,16 @@
 -- Symbols that follow one another in an entry.
 use Rattle.std.proofs.Common.{◌≡◌, ℕ, ◌+◌, Bool, List, [], ◌∷◌, ◌++◌, length, map, take, Option, Some, None, Result, Ok, Err, refl, sym, ◌∙◌, ap, append-nil, append_assoc}
-use Rattle.std.specs.Prelude.{get_or}
-use Rattle.std.specs.List.{enumerate_from}
+use Rattle.std.specs.{Prelude.{get_or}, List.{enumerate_from}}
 use Rattle.std.proofs.Math.Seq.{take-append_seam}
-use Rattle.std.proofs.lemmas.List.{length-append}
-use Rattle.std.proofs.lemmas.List.Elements.{filter_map-append}
+use Rattle.std.proofs.lemmas.{List.{length-append}, List.Elements.{filter_map-append}}
 use Rattle.oc_base.specs.declared.fault.Fault.{Fault}
-use Rattle.oc_linking.specs.Numbers.{or_else}
-use Rattle.oc_linking.specs.FirstFault.{Condition, first_broken, stage_fault}
+use Rattle.oc_linking.specs.{Numbers.{or_else}, FirstFault.{Condition, first_broken, stage_fault}}
 use Rattle.oc_shelf.proofs.ReadingLaws.StageLemmas.{first_upto-head}
-use Rattle.oc_omf.specs.declared.cut.Cut.{Cut}
-use Rattle.oc_omf.specs.declared.structures.PublicBase.{PublicBase}
-use Rattle.oc_omf.specs.declared.topics.Topic.TheVariants as topic
-use Rattle.oc_omf.specs.Cursor.{Read, Reading}
-use Rattle.oc_omf.specs.Structures.{Public, External, base_read}
-use Rattle.oc_omf.specs.Entries.{Entry, all_read, read_of, whole}
-use Rattle.oc_omf.specs.Tables.{Tables}
+use Rattle.oc_omf.specs.{declared.cut.Cut.{Cut}, declared.structures.PublicBase.{PublicBase}, Cursor.{Read, Reading}, Structures.{Public, External, base_read}}
+use Rattle.oc_omf.specs.{Entries.{Entry, all_read, read_of, whole}, Tables.{Tables}}
 use Rattle.oc_omf.specs.SymbolFaults.{EntryContext, base_conditions, code_of, external_conditions, public_conditions, symbol_fault, symbol_stage, symbol_table, read_conditions}
 use Rattle.oc_omf.specs.Topics.{publics_on, said_on}
+use Rattle.oc_omf.specs.declared.topics.Topic.TheVariants as topic
 use Rattle.oc_omf_judge.specs.EarlierSymbols.{external_behind, public_behind, walked}
 
 -- the first fault of lists of conditions

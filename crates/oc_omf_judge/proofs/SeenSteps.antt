@@ -1,28 +1,16 @@
 -- One definition, external or communal more.
 use Rattle.std.proofs.Common.{◌≡◌, ℕ, Bool, true, false, cond, ◌&&◌, ◌||◌, not, nat_eq, nat_lt, List, [], ◌∷◌, ◌++◌, length, map, Option, Some, None, refl, sym, ◌∙◌, ap, subst, arith}
-use Rattle.std.specs.Prelude.{bytes_eq, is_some}
-use Rattle.std.specs.List.{list_any}
-use Rattle.std.specs.Map.{update}
-use Rattle.std.specs.Option.{option_map_or}
-use Rattle.std.proofs.lemmas.Bool.Decides.{nat_tests}
-use Rattle.std.proofs.lemmas.List.{map-append}
-use Rattle.std.proofs.lemmas.List.Folds.{list_any-append}
-use Rattle.std.proofs.lemmas.Slice.Eq.{bytes_eq-Decides}
+use Rattle.std.specs.{Prelude.{bytes_eq, is_some}, List.{list_any}, Map.{update}, Option.{option_map_or}}
+use Rattle.std.proofs.lemmas.{Bool.Decides.{nat_tests}, List.{map-append}, List.Folds.{list_any-append}, Slice.Eq.{bytes_eq-Decides}}
 use Rattle.std.proofs.Math.Bool.{or-false}
-use Rattle.oc_omf_judge.specs.declared.earlier.External.{External as Mentioned}
-use Rattle.oc_omf_judge.specs.declared.earlier.EarlierSymbols.{EarlierSymbols}
-use Rattle.oc_omf.specs.declared.structures.Communal.{Communal}
-use Rattle.oc_omf.specs.Structures.{Public, External}
-use Rattle.oc_omf.specs.Tables.{Tables}
-use Rattle.oc_omf.specs.Symbols.{agree, external_mention, public_mention, same_symbol}
-use Rattle.oc_omf.specs.SymbolFaults.{communal_conditions, is_empty, is_other_length, is_undefined, same_public, symbol_fault}
-use Rattle.oc_omf_judge.specs.Held.{Held, value_at}
-use Rattle.oc_base.specs.declared.code.Code.TheVariants.{BadSymbol, DuplicateName, SymbolKind}
-use Rattle.oc_linking.specs.Numbers.{or_else}
-use Rattle.oc_linking.specs.FirstFault.{first_broken}
-use Rattle.oc_shelf.proofs.ReadingLaws.StageLemmas.{first_broken-append}
-use Rattle.oc_omf.specs.Sections.{size_at}
+use Rattle.oc_omf_judge.specs.{declared.earlier.External.{External as Mentioned}, declared.earlier.EarlierSymbols.{EarlierSymbols}, Held.{Held, value_at}}
 use Rattle.oc_omf_judge.specs.EarlierSymbols.{AreCommunal, AreNamed, AreEarlierSymbols, external_behind, external_with, mention_of, public_behind}
+use Rattle.oc_omf.specs.{declared.structures.Communal.{Communal}, Structures.{Public, External}, Tables.{Tables}}
+use Rattle.oc_omf.specs.Symbols.{agree, external_mention, public_mention, same_symbol}
+use Rattle.oc_omf.specs.{SymbolFaults.{communal_conditions, is_empty, is_other_length, is_undefined, same_public, symbol_fault}, Sections.{size_at}}
+use Rattle.oc_base.specs.declared.code.Code.TheVariants.{BadSymbol, DuplicateName, SymbolKind}
+use Rattle.oc_linking.specs.{Numbers.{or_else}, FirstFault.{first_broken}}
+use Rattle.oc_shelf.proofs.ReadingLaws.StageLemmas.{first_broken-append}
 use Rattle.oc_omf_judge.proofs.MentionLemmas.{agree_self}
 
 -- the same bytes, either way

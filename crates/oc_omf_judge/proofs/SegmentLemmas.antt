@@ -1,20 +1,14 @@
 -- What the conditions on a segment are, and what holds where none is broken.
 use Rattle.std.proofs.Common.{◌≡◌, ℕ, ◌+◌, ◌≤◌, List, length, Some, None, Ok, Err, sym, ◌∙◌, ap, subst, arith}
 use Rattle.std.specs.List.{sum_by}
-use Rattle.std.proofs.lemmas.Bool.Decides.{nat_tests}
-use Rattle.std.proofs.lemmas.List.{length-map}
-use Rattle.std.proofs.lemmas.Option.{none-some, same_Some}
+use Rattle.std.proofs.lemmas.{Bool.Decides.{nat_tests}, List.{length-map}, Option.{none-some, same_Some}}
 use denote.Ref.{Bor}
 use Rattle.oc_base.specs.declared.code.Code.TheVariants.{BadTable}
 use Rattle.oc_linking.specs.FirstFault.{first_broken}
 use Rattle.oc_shelf.proofs.ReadingLaws.StageLemmas.{all_hold, clean_both}
-use Rattle.oc_omf_judge.specs.declared.defined.Defined.{Defined}
-use Rattle.oc_omf.specs.declared.structures.Segment.{Segment}
-use Rattle.oc_omf.specs.Cursor.{Reading}
-use Rattle.oc_omf.specs.Tables.{Tables}
-use Rattle.oc_omf.specs.Sections.{segment_size}
+use Rattle.oc_omf_judge.specs.{declared.defined.Defined.{Defined}, Defined.{IsDefined, part_of}}
+use Rattle.oc_omf.specs.{declared.structures.Segment.{Segment}, Cursor.{Reading}, Tables.{Tables}, Sections.{segment_size}}
 use Rattle.oc_omf.specs.SectionFaults.{conditions_by, form_conditions, own_fault, segment_conditions, segment_conditions_by, size_conditions}
-use Rattle.oc_omf_judge.specs.Defined.{IsDefined, part_of}
 
 -- how many names are kept
 pub name_count : (t : Tables) (d : Defined) → IsDefined t d → length d.names.items ≡ length t.names

@@ -1,14 +1,9 @@
 -- Whether data meet those before, asked of their spans.
 use Rattle.std.proofs.Common.{◌≡◌, ℕ, zero, suc, ◌+◌, Bool, true, false, cond, ◌&&◌, ◌||◌, nat_eq, nat_lt, List, [], ◌∷◌, length, Some, refl, sym, ◌∙◌, ap, arith}
-use Rattle.std.specs.Prelude.{slice_get, filter}
-use Rattle.std.specs.List.{list_any}
-use Rattle.std.specs.Option.{option_map_or}
+use Rattle.std.specs.{Prelude.{slice_get, filter}, List.{list_any}, Option.{option_map_or}}
 use Rattle.std.proofs.lemmas.Bool.Decides.{nat_tests}
-use Rattle.oc_shelf.specs.Reading.Firsts.{any_upto}
-use Rattle.oc_shelf.specs.Reading.Spans.{meets}
-use Rattle.oc_omf.specs.Structures.{Piece}
-use Rattle.oc_omf.specs.Sections.{piece_size}
-use Rattle.oc_omf.specs.SectionFaults.{pieces_meet}
+use Rattle.oc_shelf.specs.{Reading.Firsts.{any_upto}, Reading.Spans.{meets}}
+use Rattle.oc_omf.specs.{Structures.{Piece}, Sections.{piece_size}, SectionFaults.{pieces_meet}}
 use Rattle.oc_omf_judge.specs.Defined.{IsSmall, piece_span, place_in, span_among}
 
 -- a test of the first of some positions, and of those behind it

@@ -1,29 +1,19 @@
 -- What an entry is judged by at the stage of sections, by what it is about.
 use Rattle.std.proofs.Common.{◌≡◌, ℕ, ◌+◌, ◌≤◌, Bool, false, List, [], ◌∷◌, ◌++◌, Option, Some, None, Ok, Err, refl, sym, ◌∙◌, ap, append-nil}
-use Rattle.std.specs.Prelude.{flat_map, length, slice_get}
-use Rattle.std.specs.List.{cons_option}
-use Rattle.std.specs.Option.{option_map}
-use Rattle.std.proofs.lemmas.List.{length-map, take_all}
-use Rattle.std.proofs.lemmas.Option.{slice_get-map}
-use Rattle.oc_base.specs.declared.code.Code.TheVariants.{BadName, BadTable}
-use Rattle.oc_base.specs.declared.fault.Fault.{Fault}
-use Rattle.oc_linking.specs.Numbers.{or_else}
-use Rattle.oc_linking.specs.FirstFault.{Condition, fault_of, first_broken}
+use Rattle.std.specs.{Prelude.{flat_map, length, slice_get}, List.{cons_option}, Option.{option_map}}
+use Rattle.std.proofs.lemmas.{List.{length-map, take_all}, Option.{slice_get-map}}
+use Rattle.oc_base.specs.{declared.code.Code.TheVariants.{BadName, BadTable}, declared.fault.Fault.{Fault}}
+use Rattle.oc_linking.specs.{Numbers.{or_else}, FirstFault.{Condition, fault_of, first_broken}}
 use Rattle.oc_shelf.proofs.ReadingLaws.StageLemmas.{first_broken-append}
-use Rattle.oc_omf_records.specs.declared.records.Entry.{Entry as Record}
-use Rattle.oc_omf_records.specs.NextEntry.{entry_of}
-use Rattle.oc_omf.specs.declared.topics.Topic.{Topic}
-use Rattle.oc_omf.specs.declared.topics.Topic.TheVariants as topic
-use Rattle.oc_omf.specs.Cursor.{Reading, Read, each_read, name_read}
-use Rattle.oc_omf.specs.Structures.{group_read, piece_read, segment_read}
-use Rattle.oc_omf.specs.Entries.{Entry, all_read, entries_in, in_file, is_wide, places_in, read_of, said_at, whole}
-use Rattle.oc_omf.specs.Tables.{Tables, tables_of}
+use Rattle.oc_omf_records.specs.{declared.records.Entry.{Entry as Record}, NextEntry.{entry_of}}
+use Rattle.oc_omf.specs.{declared.topics.Topic.{Topic}, Cursor.{Reading, Read, each_read, name_read}, Structures.{group_read, piece_read, segment_read}}
+use Rattle.oc_omf.specs.{Entries.{Entry, all_read, entries_in, in_file, is_wide, places_in, read_of, said_at, whole}, Tables.{Tables, tables_of}}
 use Rattle.oc_omf.specs.SectionFaults.{conditions_by, conditions_on, end_conditions, group_conditions, name_conditions, own_fault, piece_conditions, section_stage, segment_conditions, whole_conditions}
 use Rattle.oc_omf.specs.Topics.{said_on, topic_of}
+use Rattle.oc_omf.specs.declared.topics.Topic.TheVariants as topic
 use Rattle.oc_omf_judge.specs.Defined.{and_entry, before_in, part_of}
 use Rattle.oc_omf.proofs.EntryLemmas.{conditions_at}
-use Rattle.oc_omf_judge.proofs.StateLaws.{tables_more}
-use Rattle.oc_omf_judge.proofs.TopicLemmas.{said_topic}
+use Rattle.oc_omf_judge.proofs.{StateLaws.{tables_more}, TopicLemmas.{said_topic}}
 
 -- ... structures with their places in the file
 

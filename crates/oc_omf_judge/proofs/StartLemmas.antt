@@ -1,27 +1,16 @@
 -- Fields meet exactly where one begins near another.
 use Rattle.std.proofs.Common.{◌≡◌, ℕ, zero, suc, ◌+◌, ◌*◌, ◌<◌, Bool, true, false, cond, List, [], ◌∷◌, ◌++◌, length, take, get_or, Option, None, Some, refl, sym, ◌∙◌, ap, subst, arith}
-use Rattle.std.specs.Prelude.{◌&&◌, ◌||◌, ◌⊎◌, is_some, nat_eq, nat_lt, slice_get}
-use Rattle.std.specs.Ordering.{is_eq, nat_cmp}
-use Rattle.std.specs.List.{list_any}
+use Rattle.std.specs.{Prelude.{◌&&◌, ◌||◌, ◌⊎◌, is_some, nat_eq, nat_lt, slice_get}, Ordering.{is_eq, nat_cmp}, List.{list_any}}
 use Rattle.std.specs.Option.{option_map_or, unwrap_or}
-use Rattle.std.proofs.lemmas.Bool.{true≢false, and_parts, and_from}
-use Rattle.std.proofs.lemmas.Bool.Decides.{nat_tests}
-use Rattle.std.proofs.lemmas.Option.{none-some, same_Some, slice_get-get_or}
-use Rattle.std.proofs.lemmas.List.Folds.{list_any-append}
-use Rattle.std.proofs.lemmas.Map.Keys.{any_passes_from_place}
+use Rattle.std.proofs.lemmas.{Bool.{true≢false, and_parts, and_from}, Bool.Decides.{nat_tests}, Option.{none-some, same_Some, slice_get-get_or}}
+use Rattle.std.proofs.lemmas.{List.Folds.{list_any-append}, Map.Keys.{any_passes_from_place}}
 use Rattle.oc_neutral.proofs.FieldLists.{take_here}
 use Rattle.oc_target.proofs.MeetsParts.{any_passes}
 use Rattle.oc_shelf.proofs.WritingLaws.MemberLemmas.{each_append, member_map, of_map}
 use Rattle.oc_omf_records.specs.Blocks.{moved}
-use Rattle.oc_omf.specs.Structures.{Piece}
-use Rattle.oc_omf_judge.specs.Defined.{place_in}
-use Rattle.oc_omf.specs.Fixups.{Fixed, are_near, copies_for, field_offsets, is_of_segment, meet}
-use Rattle.oc_omf.specs.RelocationFaults.{is_kept}
-use Rattle.oc_omf_judge.specs.declared.starts.Starts.{Starts}
-use Rattle.oc_omf_judge.specs.declared.whole.Whole.{Whole}
-use Rattle.oc_omf_judge.specs.Lying.{base, lying_of}
-use Rattle.oc_omf_judge.specs.Starts.{AreStarts, IsLowField, IsMet, is_among, is_start, starts_at}
-use Rattle.oc_omf_judge.specs.Whole.{is_judged, tables}
+use Rattle.oc_omf.specs.{Structures.{Piece}, Fixups.{Fixed, are_near, copies_for, field_offsets, is_of_segment, meet}, RelocationFaults.{is_kept}}
+use Rattle.oc_omf_judge.specs.{Defined.{place_in}, declared.starts.Starts.{Starts}, declared.whole.Whole.{Whole}, Lying.{base, lying_of}}
+use Rattle.oc_omf_judge.specs.{Starts.{AreStarts, IsLowField, IsMet, is_among, is_start, starts_at}, Whole.{is_judged, tables}}
 
 -- ... places
 

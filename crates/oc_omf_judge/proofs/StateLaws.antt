@@ -4,17 +4,10 @@ use Rattle.std.specs.Prelude.{◌&&◌, nat_eq, flat_map, slice_get}
 use Rattle.std.proofs.lemmas.Grind.{flat_map-append, fold-append}
 use Rattle.oc_linking.specs.Numbers.{or_else}
 use Rattle.oc_neutral.proofs.FieldLists.{take_here}
-use Rattle.oc_omf.specs.declared.cut.Cut.{Cut}
-use Rattle.oc_omf.specs.declared.structures.Method.{Method}
-use Rattle.oc_omf.specs.declared.structures.Subrecord.{Subrecord}
+use Rattle.oc_omf.specs.{declared.cut.Cut.{Cut}, declared.structures.Method.{Method}, declared.structures.Subrecord.{Subrecord}}
+use Rattle.oc_omf.specs.{declared.structures.Thread.{Thread}, declared.threads.Threads.{Threads}, Entries.{Entry, all_read}, Tables.{Tables, tables_of}}
+use Rattle.oc_omf.specs.{Fixups.{PlacedSubrecord, thread_by, thread_after}, Known.{AreInForce, IsThreadTaken, thread_in}, Symbols.{agree}}
 use Rattle.oc_omf.specs.declared.structures.Subrecord.TheVariants as subrecord
-use Rattle.oc_omf.specs.declared.structures.Thread.{Thread}
-use Rattle.oc_omf.specs.declared.threads.Threads.{Threads}
-use Rattle.oc_omf.specs.Entries.{Entry, all_read}
-use Rattle.oc_omf.specs.Tables.{Tables, tables_of}
-use Rattle.oc_omf.specs.Fixups.{PlacedSubrecord, thread_by, thread_after}
-use Rattle.oc_omf.specs.Known.{AreInForce, IsThreadTaken, thread_in}
-use Rattle.oc_omf.specs.Symbols.{agree}
 
 -- what a list of structures of each entry gives, with one entry more
 listed_more : {X : Type 0} (of : Entry → List X) (entries : List Entry) (i : ℕ) (e : Entry) → slice_get entries i ≡ Some e

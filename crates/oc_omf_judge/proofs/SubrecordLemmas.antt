@@ -3,11 +3,9 @@ use Rattle.std.specs.Prelude.{if◌then◌else◌, nat_le}
 use Rattle.std.proofs.Common.{◌≡◌, ℕ, ◌<◌, ◌≤◌, Bool, true, false, List, length, Ok, Err, ap, subst, arith}
 use Rattle.oc_neutral.specs.KindRules.{has}
 use Rattle.oc_omf.specs.declared.structures.Datum.TheVariants as datum
-use Rattle.oc_omf.specs.declared.structures.Method.{Method}
-use Rattle.oc_omf.specs.declared.structures.Subrecord.{Subrecord}
-use Rattle.oc_omf.specs.declared.structures.Subrecord.TheVariants as subrecord
-use Rattle.oc_omf.specs.Cursor.{Reading, index_read, next, number_read}
+use Rattle.oc_omf.specs.{declared.structures.Method.{Method}, declared.structures.Subrecord.{Subrecord}, Cursor.{Reading, index_read, next, number_read}}
 use Rattle.oc_omf.specs.Structures.{bits, displacement_read, fixup_read, frame_read, long_size, method_read, subrecord_read, target_read, thread_read}
+use Rattle.oc_omf.specs.declared.structures.Subrecord.TheVariants as subrecord
 use Rattle.oc_omf.proofs.EachLemmas.{Goes, byte_goes, index_goes, next_goes, number_goes}
 use Rattle.oc_omf_judge.proofs.GoesLemmas.{after_of}
 use Rattle.oc_omf_judge.specs.Threads.{HasNumber}

@@ -1,15 +1,10 @@
 -- The stages of symbols, one for each entry.
 use Rattle.std.proofs.Common.{◌≡◌, ℕ, suc, ◌+◌, List, [], ◌∷◌, length, map, Option, Some, refl, sym, ◌∙◌, ap, arith}
-use Rattle.std.specs.Prelude.{slice_get}
-use Rattle.std.specs.List.{enumerate_from}
-use Rattle.std.specs.Option.{option_and_then}
+use Rattle.std.specs.{Prelude.{slice_get}, List.{enumerate_from}, Option.{option_and_then}}
 use Rattle.oc_base.specs.declared.fault.Fault.{Fault}
-use Rattle.oc_linking.specs.Numbers.{first_upto, or_else}
-use Rattle.oc_linking.specs.FirstFault.{Stage, first_fault, stage_fault}
+use Rattle.oc_linking.specs.{Numbers.{first_upto, or_else}, FirstFault.{Stage, first_fault, stage_fault}}
 use Rattle.oc_shelf.proofs.ReadingLaws.StageLemmas.{first_upto-head, first_upto-same}
-use Rattle.oc_omf.specs.Entries.{Entry, entries_in}
-use Rattle.oc_omf.specs.Tables.{tables_of}
-use Rattle.oc_omf.specs.SymbolFaults.{symbol_stage, symbol_stages, entry_context}
+use Rattle.oc_omf.specs.{Entries.{Entry, entries_in}, Tables.{tables_of}, SymbolFaults.{symbol_stage, symbol_stages, entry_context}}
 use Rattle.oc_omf_judge.specs.Defined.{before_in}
 
 -- ... stages, one for each thing

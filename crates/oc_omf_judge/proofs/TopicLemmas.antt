@@ -2,13 +2,9 @@
 use Rattle.std.proofs.Common.{◌≡◌, ℕ, Bool, true, false, cond, List, Ok, Err, refl, ap}
 use Rattle.std.specs.Prelude.{◌||◌}
 use Rattle.oc_omf.specs.declared.constants.TheConstants.{MODEND, EXTDEF, PUBDEF, LNAMES, SEGDEF, GRPDEF, FIXUPP, LEDATA, LIDATA, COMDEF, LEXTDEF, LPUBDEF}
-use Rattle.oc_omf.specs.declared.structures.PublicBase.{PublicBase}
-use Rattle.oc_omf.specs.declared.topics.Topic.{Topic}
+use Rattle.oc_omf.specs.{declared.structures.PublicBase.{PublicBase}, declared.topics.Topic.{Topic}, Cursor.{Reading}, Structures.{base_read}}
+use Rattle.oc_omf.specs.{Entries.{Entry, is_kind, is_wide, publics_of, said_by, says_nothing, whole}, Topics.{publics_on, said_on, topic_of}}
 use Rattle.oc_omf.specs.declared.topics.Topic.TheVariants as topic
-use Rattle.oc_omf.specs.Cursor.{Reading}
-use Rattle.oc_omf.specs.Structures.{base_read}
-use Rattle.oc_omf.specs.Entries.{Entry, is_kind, is_wide, publics_of, said_by, says_nothing, whole}
-use Rattle.oc_omf.specs.Topics.{publics_on, said_on, topic_of}
 
 -- a choice of topics, and of what they say
 chosen : (place : ℕ) (wide : Bool) (b : List ℕ) (test : Bool) (x y : Topic) (e f : Entry) → e ≡ said_on x place wide b → f ≡ said_on y place wide b

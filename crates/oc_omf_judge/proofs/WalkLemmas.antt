@@ -1,14 +1,9 @@
 -- A walk along the structures of an entry, each judged behind those before it.
 use Rattle.std.proofs.Common.{◌≡◌, ℕ, ◌+◌, ◌<◌, ◌≤◌, List, [], ◌∷◌, ◌++◌, length, Some, None, Ok, Err, refl, sym, ◌∙◌, ap, subst, append-nil, append_assoc}
-use Rattle.oc_base.specs.declared.stop.Stop.{Stop}
+use Rattle.oc_base.specs.{declared.stop.Stop.{Stop}, Stops.{IsStop}}
 use Rattle.oc_base.specs.declared.stop.Stop.TheVariants as stop
-use Rattle.oc_base.specs.Stops.{IsStop}
-use Rattle.oc_linking.specs.Numbers.{or_else}
-use Rattle.oc_linking.specs.FirstFault.{Condition, first_broken}
-use Rattle.oc_omf.specs.declared.constants.TheConstants.{ENTRY_HEAD}
-use Rattle.oc_omf.specs.declared.cut.Cut.{Cut}
-use Rattle.oc_omf.specs.Cursor.{Read, Reading}
-use Rattle.oc_omf.specs.Entries.{all_read, in_file}
+use Rattle.oc_linking.specs.{Numbers.{or_else}, FirstFault.{Condition, first_broken}}
+use Rattle.oc_omf.specs.{declared.constants.TheConstants.{ENTRY_HEAD}, declared.cut.Cut.{Cut}, Cursor.{Read, Reading}, Entries.{all_read, in_file}}
 use Rattle.oc_omf.specs.SymbolFaults.{code_of, symbol_fault}
 use Rattle.oc_omf_judge.specs.EarlierSymbols.{walked}
 use Rattle.oc_omf.proofs.EachLemmas.{Goes, each_cut, each_end, each_from, each_more}

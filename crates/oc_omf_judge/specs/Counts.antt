@@ -1,8 +1,6 @@
 -- How many segments, groups and externals the entries so far define, as a reader keeps it (our profile).
 use Rattle.std.specs.Prelude.{◌≡◌, ℕ, Bool, min, if◌then◌else◌, List, length, Option, Some, None, Ok, Err}
-use Rattle.oc_omf.specs.Cursor.{Reading}
-use Rattle.oc_omf.specs.Structures.{External, external_read, communal_read}
-use Rattle.oc_omf.specs.Tables.{Tables}
+use Rattle.oc_omf.specs.{Cursor.{Reading}, Structures.{External, external_read, communal_read}, Tables.{Tables}}
 use Rattle.oc_omf_judge.specs.declared.counts.Counts.{Counts}
 
 -- they are those of what is defined; an index is below 65,536

@@ -1,30 +1,16 @@
 -- What a reader keeps of the entries before one, as long as it judges names, segments, groups and data (our profile).
 use Rattle.std.specs.Prelude.{◌≡◌, ℕ, ◌+◌, ◌*◌, ◌^◌, min, ◌<◌, ◌≤◌, Bool, false, nat_lt, if◌then◌else◌, List, [], ◌∷◌, ◌++◌, length, map, take, get_or, slice_get, Option, Some, None, Result, Ok, Err}
-use Rattle.std.specs.List.{sum_by}
-use Rattle.std.specs.Option.{option_and_then, option_map_or}
-use Rattle.oc_base.specs.declared.code.Code.TheVariants.{BadTable}
-use Rattle.oc_base.specs.declared.fault.Fault.{Fault}
-use Rattle.oc_base.specs.declared.stop.Stop.{Stop}
-use Rattle.oc_base.specs.Stops.{IsStop}
-use Rattle.oc_linking.specs.declared.terms.Kind.{Kind}
-use Rattle.oc_linking.specs.declared.terms.Kind.TheVariants.{Data}
-use Rattle.oc_linking.specs.FirstFault.{first_broken}
+use Rattle.std.specs.{List.{sum_by}, Option.{option_and_then, option_map_or}}
+use Rattle.oc_base.specs.{declared.code.Code.TheVariants.{BadTable}, declared.fault.Fault.{Fault}, declared.stop.Stop.{Stop}, Stops.{IsStop}}
+use Rattle.oc_linking.specs.{declared.terms.Kind.{Kind}, declared.terms.Kind.TheVariants.{Data}, FirstFault.{first_broken}}
 use Rattle.oc_shelf.specs.Reading.Spans.{AreSpansOf}
-use Rattle.oc_omf_records.specs.declared.faults.BlockFault.{BlockFault}
-use Rattle.oc_omf_records.specs.Blocks.{Blocks, size_of}
-use Rattle.oc_omf.specs.declared.structures.DataHead.{DataHead}
-use Rattle.oc_omf_judge.specs.declared.defined.Defined.{Defined}
-use Rattle.oc_omf_judge.specs.declared.section_stage.EntryPlace.{EntryPlace}
-use Rattle.oc_omf.specs.declared.structures.Segment.{Segment}
-use Rattle.oc_omf.specs.declared.topics.Topic.{Topic}
-use Rattle.oc_omf.specs.Cursor.{Reading}
-use Rattle.oc_omf.specs.Structures.{Group, Piece}
-use Rattle.oc_omf.specs.Entries.{Entry, entries_in, all_read}
-use Rattle.oc_omf.specs.Tables.{Tables, tables_of}
+use Rattle.oc_omf_records.specs.{declared.faults.BlockFault.{BlockFault}, Blocks.{Blocks, size_of}}
+use Rattle.oc_omf.specs.{declared.structures.DataHead.{DataHead}, declared.structures.Segment.{Segment}, declared.topics.Topic.{Topic}, Cursor.{Reading}}
+use Rattle.oc_omf.specs.{Structures.{Group, Piece}, Entries.{Entry, entries_in, all_read}, Tables.{Tables, tables_of}}
 use Rattle.oc_omf.specs.Sections.{is_covered, piece_size, segment_kind, segment_size}
 use Rattle.oc_omf.specs.SectionFaults.{bytes_size, conditions_by, conditions_on, group_conditions, own_fault, piece_conditions, segment_conditions_by}
-use Rattle.oc_omf.specs.Known.{names_of}
-use Rattle.oc_omf.specs.Topics.{said_on}
+use Rattle.oc_omf.specs.{Known.{names_of}, Topics.{said_on}}
+use Rattle.oc_omf_judge.specs.{declared.defined.Defined.{Defined}, declared.section_stage.EntryPlace.{EntryPlace}}
 
 -- what the entries of a file before one define
 abbrev pub before_in : List ℕ → ℕ → Tables

@@ -1,29 +1,17 @@
 -- What a reader keeps of the entries before one, as long as it judges symbols (our profile).
-use Rattle.std.specs.Prelude.{◌≡◌, ℕ, Bool, true, false, not, nat_eq, nat_lt, List, [], ◌∷◌, ◌++◌, map, is_some, Option, Some, None, Ok, Err}
-use Rattle.std.specs.List.{list_any}
+use Rattle.std.specs.{Prelude.{◌≡◌, ℕ, Bool, true, false, not, nat_eq, nat_lt, List, [], ◌∷◌, ◌++◌, map, is_some, Option, Some, None, Ok, Err}, List.{list_any}}
 use Rattle.std.specs.Option.{option_map_or}
-use Rattle.oc_base.specs.declared.code.Code.TheVariants.{SymbolPastEnd, SymbolKind, DuplicateName, BadSymbol}
-use Rattle.oc_base.specs.declared.fault.Fault.{Fault}
-use Rattle.oc_base.specs.declared.stop.Stop.{Stop}
-use Rattle.oc_base.specs.Stops.{IsStop}
-use Rattle.oc_linking.specs.Numbers.{or_else}
-use Rattle.oc_linking.specs.FirstFault.{Condition, first_broken, stage_fault}
-use Rattle.oc_omf_judge.specs.declared.earlier.External.{External as Mentioned}
-use Rattle.oc_omf_judge.specs.declared.earlier.EarlierSymbols.{EarlierSymbols}
-use Rattle.oc_omf_judge.specs.declared.section_stage.EntryPlace.{EntryPlace}
-use Rattle.oc_omf.specs.declared.structures.Communal.{Communal}
-use Rattle.oc_omf.specs.declared.symbols.Public as read
-use Rattle.oc_omf.specs.declared.topics.Topic.{Topic}
-use Rattle.oc_omf.specs.Cursor.{Read, each_read}
-use Rattle.oc_omf.specs.Structures.{Group, Public, External, communal_read, external_read, public_read}
-use Rattle.oc_omf.specs.Entries.{Entry, all_read, in_file}
-use Rattle.oc_omf.specs.Tables.{Tables}
-use Rattle.oc_omf.specs.Sections.{size_at}
-use Rattle.oc_omf.specs.Symbols.{Mention, external_mention, public_mention, same_symbol}
+use Rattle.oc_base.specs.{declared.code.Code.TheVariants.{SymbolPastEnd, SymbolKind, DuplicateName, BadSymbol}, declared.fault.Fault.{Fault}}
+use Rattle.oc_base.specs.{declared.stop.Stop.{Stop}, Stops.{IsStop}}
+use Rattle.oc_linking.specs.{Numbers.{or_else}, FirstFault.{Condition, first_broken, stage_fault}}
+use Rattle.oc_omf_judge.specs.{declared.earlier.External.{External as Mentioned}, declared.earlier.EarlierSymbols.{EarlierSymbols}}
+use Rattle.oc_omf_judge.specs.{declared.section_stage.EntryPlace.{EntryPlace}, Defined.{and_entry}, Held.{Held, value_at}}
+use Rattle.oc_omf.specs.{declared.structures.Communal.{Communal}, declared.topics.Topic.{Topic}, Cursor.{Read, each_read}}
+use Rattle.oc_omf.specs.{Structures.{Group, Public, External, communal_read, external_read, public_read}, Entries.{Entry, all_read, in_file}, Tables.{Tables}}
+use Rattle.oc_omf.specs.{Sections.{size_at}, Symbols.{Mention, external_mention, public_mention, same_symbol}}
 use Rattle.oc_omf.specs.SymbolFaults.{code_of, communal_conditions, is_empty, is_other_length, is_undefined, same_public, symbol_fault, symbol_stage}
 use Rattle.oc_omf.specs.Topics.{said_on}
-use Rattle.oc_omf_judge.specs.Defined.{and_entry}
-use Rattle.oc_omf_judge.specs.Held.{Held, value_at}
+use Rattle.oc_omf.specs.declared.symbols.Public as read
 
 -- the names that are held are those of definitions, of this module alone or not
 abbrev pub AreNamed : Bool → List Public → Held → Type 0

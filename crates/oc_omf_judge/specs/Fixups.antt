@@ -1,22 +1,14 @@
 -- What a fixup must meet after what a reader keeps (our profile).
 use Rattle.std.specs.Prelude.{◌≡◌, ℕ, true, ◌||◌, if◌then◌else◌, List, [], ◌∷◌, ◌++◌, Option, Some, None, Ok}
-use Rattle.oc_base.specs.declared.code.Code.TheVariants.{BadTarget, TargetKind, Overlap}
-use Rattle.oc_base.specs.declared.fault.Fault.{Fault}
-use Rattle.oc_base.specs.declared.stop.Stop.{Stop}
-use Rattle.oc_base.specs.declared.stop.Stop.TheVariants as stop
+use Rattle.oc_base.specs.{declared.code.Code.TheVariants.{BadTarget, TargetKind, Overlap}, declared.fault.Fault.{Fault}, declared.stop.Stop.{Stop}}
 use Rattle.oc_base.specs.Stops.{IsStop}
+use Rattle.oc_base.specs.declared.stop.Stop.TheVariants as stop
 use Rattle.oc_linking.specs.FirstFault.{first_broken}
-use Rattle.oc_omf.specs.declared.structures.Fixup.{Fixup}
-use Rattle.oc_omf.specs.declared.structures.Method.{Method}
-use Rattle.oc_omf.specs.declared.structures.Subrecord.TheVariants as subrecord
-use Rattle.oc_omf.specs.Tables.{Tables}
-use Rattle.oc_omf.specs.Fixups.{PlacedSubrecord, fixed_in, fixed_of}
+use Rattle.oc_omf.specs.{declared.structures.Fixup.{Fixup}, declared.structures.Method.{Method}, Tables.{Tables}, Fixups.{PlacedSubrecord, fixed_in, fixed_of}}
 use Rattle.oc_omf.specs.RelocationFaults.{fixup_conditions, is_datum_there}
-use Rattle.oc_omf_judge.specs.declared.reached.Reached.{Reached}
-use Rattle.oc_omf_judge.specs.declared.whole.Whole.{Whole}
-use Rattle.oc_omf_judge.specs.Reached.{IsReached, base_in, last_in, placed_at, relocation_fault}
-use Rattle.oc_omf_judge.specs.Rows.{has_row}
-use Rattle.oc_omf_judge.specs.Starts.{IsMet, is_among, is_start}
+use Rattle.oc_omf.specs.declared.structures.Subrecord.TheVariants as subrecord
+use Rattle.oc_omf_judge.specs.{declared.reached.Reached.{Reached}, declared.whole.Whole.{Whole}}
+use Rattle.oc_omf_judge.specs.{Reached.{IsReached, base_in, last_in, placed_at, relocation_fault}, Rows.{has_row}, Starts.{IsMet, is_among, is_start}}
 use Rattle.oc_omf_judge.specs.Whole.{is_judged, meaning}
 
 -- the fault of what it names

@@ -1,8 +1,5 @@
 -- Names that came before, each with a number (our profile).
-use Rattle.std.specs.Prelude.{ℕ, List, Option}
-use Rattle.std.specs.BTreeMap.{BTreeMap, get_by}
-use Rattle.std.specs.Cmp.Lexicographic.{slice_cmp}
-use Rattle.std.specs.Ordering.{nat_cmp}
+use Rattle.std.specs.{Prelude.{ℕ, List, Option}, BTreeMap.{BTreeMap, get_by}, Cmp.Lexicographic.{slice_cmp}, Ordering.{nat_cmp}}
 use denote.Ref.{Bor}
 
 -- names with their numbers

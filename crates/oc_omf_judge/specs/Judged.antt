@@ -1,14 +1,8 @@
 -- What is judged of a module, as far as its symbols (our profile).
 use Rattle.std.specs.Prelude.{◌≡◌, ℕ, List, ◌∷◌}
 use Rattle.oc_linking.specs.FirstFault.{Stage}
-use Rattle.oc_omf_judge.specs.declared.front.Front.{Front}
-use Rattle.oc_omf.specs.Entries.{entries_in}
-use Rattle.oc_omf.specs.Tables.{tables_of}
-use Rattle.oc_omf.specs.HeaderFaults.{header_stage}
-use Rattle.oc_omf.specs.SectionFaults.{section_stage}
-use Rattle.oc_omf.specs.SymbolFaults.{symbol_stages}
-use Rattle.oc_omf_judge.specs.Defined.{IsDefined}
-use Rattle.oc_omf_judge.specs.EarlierSymbols.{AreEarlierSymbols}
+use Rattle.oc_omf_judge.specs.{declared.front.Front.{Front}, Defined.{IsDefined}, EarlierSymbols.{AreEarlierSymbols}}
+use Rattle.oc_omf.specs.{Entries.{entries_in}, Tables.{tables_of}, HeaderFaults.{header_stage}, SectionFaults.{section_stage}, SymbolFaults.{symbol_stages}}
 
 -- the stages before relocations
 abbrev pub front_stages : List ℕ → List Stage

@@ -1,10 +1,7 @@
 -- What is shown of the data that a reader keeps (our profile).
-use Rattle.std.specs.Prelude.{◌≡◌, ℕ, Bool, List, Option, Some}
-use Rattle.std.specs.Option.{option_map}
+use Rattle.std.specs.{Prelude.{◌≡◌, ℕ, Bool, List, Option, Some}, Option.{option_map}}
 use Rattle.oc_omf.specs.Structures.{Piece, piece_read}
-use Rattle.oc_omf_judge.specs.Defined.{IsSmall, part_of}
-use Rattle.oc_omf_judge.specs.declared.last_data.LastData.{LastData}
-use Rattle.oc_omf_judge.specs.Lying.{Lying, blocks_kept, lying_at, lying_of}
+use Rattle.oc_omf_judge.specs.{Defined.{IsSmall, part_of}, declared.last_data.LastData.{LastData}, Lying.{Lying, blocks_kept, lying_at, lying_of}}
 
 -- where they lie, and their blocks
 abbrev pub shown : LastData → Lying

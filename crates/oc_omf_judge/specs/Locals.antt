@@ -1,9 +1,6 @@
 -- The segments of the symbols that a module alone sees (our profile).
-use Rattle.std.specs.Prelude.{◌≡◌, ℕ, Bool, true, List, [], ◌∷◌, ◌++◌}
-use Rattle.std.specs.List.{find}
-use Rattle.std.specs.Option.{option_map}
-use Rattle.oc_omf.specs.Structures.{Public}
-use Rattle.oc_omf.specs.Symbols.{Mention, public_mention, same_symbol}
+use Rattle.std.specs.{Prelude.{◌≡◌, ℕ, Bool, true, List, [], ◌∷◌, ◌++◌}, List.{find}, Option.{option_map}}
+use Rattle.oc_omf.specs.{Structures.{Public}, Symbols.{Mention, public_mention, same_symbol}}
 use Rattle.oc_omf_judge.specs.Held.{Held, value_at}
 
 -- what this module alone sees under a name

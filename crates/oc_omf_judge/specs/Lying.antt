@@ -1,14 +1,8 @@
 -- The data before a fixup, as a reader keeps them (our profile).
-use Rattle.std.specs.Prelude.{◌≡◌, ℕ, ◌+◌, ◌<◌, ◌≤◌, nat_lt, if◌then◌else◌, List, [], min, ◌^◌, Option, Some, None, IsSome}
-use Rattle.std.specs.Option.{option_and_then}
-use Rattle.std.specs.BTreeMap.{BTreeMap, get}
-use Rattle.std.specs.Ordering.{nat_cmp}
+use Rattle.std.specs.{Prelude.{◌≡◌, ℕ, ◌+◌, ◌<◌, ◌≤◌, nat_lt, if◌then◌else◌, List, [], min, ◌^◌, Option, Some, None, IsSome}, Option.{option_and_then}}
+use Rattle.std.specs.{BTreeMap.{BTreeMap, get}, Ordering.{nat_cmp}}
 use Rattle.oc_omf_records.specs.Blocks.{Blocks, none, copies_of, size_of}
-use Rattle.oc_omf.specs.declared.data.Data.{Data}
-use Rattle.oc_omf.specs.declared.structures.DataHead.{DataHead}
-use Rattle.oc_omf.specs.Known.{row_of}
-use Rattle.oc_omf.specs.Structures.{Piece}
-use Rattle.oc_omf.specs.Sections.{blocks_in}
+use Rattle.oc_omf.specs.{declared.data.Data.{Data}, declared.structures.DataHead.{DataHead}, Known.{row_of}, Structures.{Piece}, Sections.{blocks_in}}
 use Rattle.oc_omf_judge.specs.Defined.{place_in}
 
 -- where data lie, and their blocks

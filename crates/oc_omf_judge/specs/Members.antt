@@ -1,9 +1,7 @@
 -- What is wrong with the members of a group (our profile).
-use Rattle.std.specs.Prelude.{ℕ, List}
-use Rattle.std.specs.List.{list_any}
+use Rattle.std.specs.{Prelude.{ℕ, List}, List.{list_any}}
 use Rattle.oc_omf_judge.specs.declared.groups.Members.{Members}
-use Rattle.oc_omf.specs.Cursor.{Read}
-use Rattle.oc_omf.specs.SectionFaults.{is_cut, is_marked_else, is_no_segment}
+use Rattle.oc_omf.specs.{Cursor.{Read}, SectionFaults.{is_cut, is_marked_else, is_no_segment}}
 
 -- what is wrong with the members of a group, after so many segments
 abbrev pub members_in : ℕ → List (Read (ℕ × ℕ)) → Members

@@ -1,32 +1,13 @@
 -- What a reader has come to in a module when it judges fixups (our profile).
-use Rattle.std.specs.Prelude.{◌≡◌, ℕ, Bool, List, [], ◌∷◌, ◌++◌, map, Option, Some, None, Result}
-use Rattle.std.specs.Option.{option_map, option_map_or}
-use Rattle.oc_base.specs.declared.code.Code.{Code}
+use Rattle.std.specs.{Prelude.{◌≡◌, ℕ, Bool, List, [], ◌∷◌, ◌++◌, map, Option, Some, None, Result}, Option.{option_map, option_map_or}}
+use Rattle.oc_base.specs.{declared.code.Code.{Code}, declared.fault.Fault.{Fault}, declared.stop.Stop.{Stop}, Stops.{IsStop}}
 use Rattle.oc_base.specs.declared.fault.Phase.TheVariants as phase
-use Rattle.oc_base.specs.declared.fault.Fault.{Fault}
-use Rattle.oc_base.specs.declared.stop.Stop.{Stop}
-use Rattle.oc_base.specs.Stops.{IsStop}
-use Rattle.oc_linking.specs.Numbers.{or_else}
-use Rattle.oc_linking.specs.FirstFault.{first_broken}
-use Rattle.oc_omf.specs.declared.cut.Cut.{Cut}
-use Rattle.oc_omf.specs.declared.structures.Subrecord.{Subrecord}
-use Rattle.oc_omf.specs.declared.topics.Topic.{Topic}
-use Rattle.oc_omf.specs.Cursor.{Read, each_read}
-use Rattle.oc_omf.specs.Structures.{External, Piece, subrecord_read}
-use Rattle.oc_omf.specs.Entries.{Entry, all_read, in_file, says_nothing}
-use Rattle.oc_omf.specs.Tables.{Tables}
-use Rattle.oc_omf.specs.Fixups.{PlacedSubrecord, fixed_in, last_of}
-use Rattle.oc_omf.specs.RelocationFaults.{relocation_conditions}
-use Rattle.oc_omf.specs.Known.{AreInForce}
-use Rattle.oc_omf.specs.Topics.{said_on}
-use Rattle.oc_omf_judge.specs.Defined.{IsSmall, and_entry}
-use Rattle.oc_omf_judge.specs.declared.reached.Reached.{Reached}
-use Rattle.oc_omf_judge.specs.declared.whole.Whole.{Whole}
-use Rattle.oc_omf_judge.specs.Counts.{AreCounts}
-use Rattle.oc_omf_judge.specs.LastData.{shown}
-use Rattle.oc_omf_judge.specs.Lying.{Lying, base, lying_of}
-use Rattle.oc_omf_judge.specs.Starts.{AreStarts}
-use Rattle.oc_omf_judge.specs.Whole.{meaning}
+use Rattle.oc_linking.specs.{Numbers.{or_else}, FirstFault.{first_broken}}
+use Rattle.oc_omf.specs.{declared.cut.Cut.{Cut}, declared.structures.Subrecord.{Subrecord}, declared.topics.Topic.{Topic}, Cursor.{Read, each_read}}
+use Rattle.oc_omf.specs.{Structures.{External, Piece, subrecord_read}, Entries.{Entry, all_read, in_file, says_nothing}, Tables.{Tables}}
+use Rattle.oc_omf.specs.{Fixups.{PlacedSubrecord, fixed_in, last_of}, RelocationFaults.{relocation_conditions}, Known.{AreInForce}, Topics.{said_on}}
+use Rattle.oc_omf_judge.specs.{Defined.{IsSmall, and_entry}, declared.reached.Reached.{Reached}, declared.whole.Whole.{Whole}, Counts.{AreCounts}}
+use Rattle.oc_omf_judge.specs.{LastData.{shown}, Lying.{Lying, base, lying_of}, Starts.{AreStarts}, Whole.{meaning}}
 
 -- the last data
 abbrev pub last_in : Reached → Option Lying

@@ -1,11 +1,7 @@
 -- Which fixups have a row, by what a reader keeps (our profile).
-use Rattle.std.specs.Prelude.{ℕ, Bool, true, false, ◌||◌, nat_eq, if◌then◌else◌, Option}
-use Rattle.std.specs.Option.{option_map, option_map_or, option_and_then}
+use Rattle.std.specs.{Prelude.{ℕ, Bool, true, false, ◌||◌, nat_eq, if◌then◌else◌, Option}, Option.{option_map, option_map_or, option_and_then}}
 use Rattle.oc_omf.specs.declared.structures.Method.{Method}
-use Rattle.oc_omf_judge.specs.declared.named.Named.{Named}
-use Rattle.oc_omf_judge.specs.declared.whole.Whole.{Whole}
-use Rattle.oc_omf_judge.specs.Named.{named_of, same, section_at}
-use Rattle.oc_omf_judge.specs.Whole.{is_flat_group}
+use Rattle.oc_omf_judge.specs.{declared.named.Named.{Named}, declared.whole.Whole.{Whole}, Named.{named_of, same, section_at}, Whole.{is_flat_group}}
 
 -- what a frame names, of a fixup in data of a segment
 abbrev pub named_frame : Whole → Option ℕ → Method → Option Named

@@ -1,15 +1,8 @@
 -- Where relocated fields begin, as a reader keeps it (our profile).
-use Rattle.std.specs.Prelude.{◌≡◌, ℕ, ◌+◌, ◌<◌, Bool, true, false, ◌&&◌, nat_eq, is_some, List, slice_get, Some}
-use Rattle.std.specs.List.{list_any}
-use Rattle.std.specs.Option.{option_map_or}
-use Rattle.std.specs.BTreeMap.{get}
-use Rattle.std.specs.Ordering.{nat_cmp}
-use Rattle.oc_omf_judge.specs.Defined.{place_in}
-use Rattle.oc_omf.specs.Fixups.{Fixed, are_near, field_offsets}
-use Rattle.oc_omf.specs.Structures.{Piece}
-use Rattle.oc_omf_judge.specs.declared.starts.Starts.{Starts}
-use Rattle.oc_omf_judge.specs.declared.whole.Whole.{Whole}
-use Rattle.oc_omf_judge.specs.Whole.{is_judged}
+use Rattle.std.specs.{Prelude.{◌≡◌, ℕ, ◌+◌, ◌<◌, Bool, true, false, ◌&&◌, nat_eq, is_some, List, slice_get, Some}, List.{list_any}, Option.{option_map_or}}
+use Rattle.std.specs.{BTreeMap.{get}, Ordering.{nat_cmp}}
+use Rattle.oc_omf_judge.specs.{Defined.{place_in}, declared.starts.Starts.{Starts}, declared.whole.Whole.{Whole}, Whole.{is_judged}}
+use Rattle.oc_omf.specs.{Fixups.{Fixed, are_near, field_offsets}, Structures.{Piece}}
 
 -- a field begins at a place
 abbrev pub is_start : Starts → ℕ → Bool

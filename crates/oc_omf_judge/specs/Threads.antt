@@ -1,12 +1,9 @@
 -- What frames and targets have by the threads that a reader keeps (our profile).
 use Rattle.std.specs.Prelude.{◌<◌, Bool, Option, Some}
-use Rattle.oc_omf.specs.declared.structures.Datum.{Datum}
+use Rattle.oc_omf.specs.{declared.structures.Datum.{Datum}, declared.structures.Method.{Method}, declared.structures.Subrecord.{Subrecord}}
+use Rattle.oc_omf.specs.{declared.threads.Threads.{Threads}, Known.{thread_in}}
 use Rattle.oc_omf.specs.declared.structures.Datum.TheVariants as datum
-use Rattle.oc_omf.specs.declared.structures.Method.{Method}
-use Rattle.oc_omf.specs.declared.structures.Subrecord.{Subrecord}
 use Rattle.oc_omf.specs.declared.structures.Subrecord.TheVariants as subrecord
-use Rattle.oc_omf.specs.declared.threads.Threads.{Threads}
-use Rattle.oc_omf.specs.Known.{thread_in}
 
 -- the method of a frame, or of a target
 abbrev pub method_by : Threads → Bool → Datum → Option Method

@@ -1,19 +1,10 @@
 -- What a reader knows of a module when it judges fixups (our profile).
-use Rattle.std.specs.Prelude.{ℕ, Bool, true, false, ◌&&◌, nat_eq, bytes_eq, List, [], codes, Option}
-use Rattle.std.specs.Option.{option_map_or, unwrap_or}
+use Rattle.std.specs.{Prelude.{ℕ, Bool, true, false, ◌&&◌, nat_eq, bytes_eq, List, [], codes, Option}, Option.{option_map_or, unwrap_or}}
 use Rattle.oc_linking.specs.Keeping.{keeps}
-use Rattle.oc_omf.specs.declared.structures.Segment.{Segment}
-use Rattle.oc_omf.specs.declared.structures.Method.{Method}
-use Rattle.oc_omf.specs.Entries.{Entry, entries_in}
-use Rattle.oc_omf.specs.Tables.{Tables, tables_of, indexed}
-use Rattle.oc_omf.specs.Sections.{segment_kind}
-use Rattle.oc_omf.specs.Targets.{Meaning, meaning_of}
-use Rattle.oc_omf.specs.Known.{names_of}
-use Rattle.oc_omf_judge.specs.Judged.{IsFront}
-use Rattle.oc_omf.specs.Fixups.{Fixed}
+use Rattle.oc_omf.specs.{declared.structures.Segment.{Segment}, declared.structures.Method.{Method}, Entries.{Entry, entries_in}}
+use Rattle.oc_omf.specs.{Tables.{Tables, tables_of, indexed}, Sections.{segment_kind}, Targets.{Meaning, meaning_of}, Known.{names_of}, Fixups.{Fixed}}
+use Rattle.oc_omf_judge.specs.{Judged.{IsFront}, declared.whole.Whole.{Whole}, Locals.{AreLocals}}
 use Rattle.oc_omf.specs.RelocationFaults as faults
-use Rattle.oc_omf_judge.specs.declared.whole.Whole.{Whole}
-use Rattle.oc_omf_judge.specs.Locals.{AreLocals}
 
 -- its entries, what they define, and what indexes mean
 abbrev pub entries : Whole → List Entry

@@ -1,69 +1,35 @@
 -- The relocations of fields, added one after the other.
 use Rattle.std.proofs.Common.{◌≡◌, ℕ, zero, suc, ◌+◌, ◌-◌, ◌<◌, ◌≤◌, Bool, true, false, cond, List, [], ◌∷◌, get_or, length, map, take, Option, None, Some, refl, sym, ◌∙◌, ap, subst, arith}
-use Rattle.std.specs.Prelude.{◌&&◌, ◌||◌, nat_eq, nat_le, slice_get}
-use Rattle.std.specs.List.Sorted.{IsPermutation}
-use Rattle.std.specs.Option.{option_and_then, option_map, option_map_or}
+use Rattle.std.specs.{Prelude.{◌&&◌, ◌||◌, nat_eq, nat_le, slice_get}, List.Sorted.{IsPermutation}, Option.{option_and_then, option_map, option_map_or}}
 use Rattle.std.proofs.Math.Seq.{take-length}
-use Rattle.std.proofs.lemmas.Bool.{true≢false}
-use Rattle.std.proofs.lemmas.Bool.Decides.{nat_tests}
-use Rattle.std.proofs.lemmas.List.{length-map}
-use Rattle.std.proofs.lemmas.List.Folds.{list_any_more}
+use Rattle.std.proofs.lemmas.{Bool.{true≢false}, Bool.Decides.{nat_tests}, List.{length-map}, List.Folds.{list_any_more}}
 use Rattle.std.proofs.lemmas.Option.{none-some, same_Some, slice_get-map, slice_get_within}
-use Rattle.oc_linking.specs.declared.terms.Binding.{Binding}
-use Rattle.oc_linking.specs.declared.terms.Binding.TheVariants.{Local, Global as GlobalBinding, Undefined, Common, Weak}
-use Rattle.oc_linking.specs.declared.terms.Keep.{Keep}
-use Rattle.oc_linking.specs.declared.terms.Less.{Less}
+use Rattle.oc_linking.specs.{declared.terms.Binding.{Binding}, declared.terms.Binding.TheVariants.{Local, Global as GlobalBinding, Undefined, Common, Weak}}
+use Rattle.oc_linking.specs.{declared.terms.Keep.{Keep}, declared.terms.Less.{Less}, FirstFault.{first_fault, stage_fault}, Fits.{bytes_of}, Values.{numbered}}
 use Rattle.oc_linking.specs.declared.terms.Less.TheVariants as less
 use Rattle.oc_linking.specs.declared.terms.Value.TheVariants as value
-use Rattle.oc_linking.specs.FirstFault.{first_fault, stage_fault}
-use Rattle.oc_linking.specs.Fits.{bytes_of}
 use Rattle.oc_linking.specs.Parts as parts
 use Rattle.oc_linking.specs.Rules as rules
 use Rattle.oc_linking.specs.Targets as file_targets
-use Rattle.oc_linking.specs.Values.{numbered}
-use Rattle.oc_neutral.specs.declared.reloc.Reloc.{Reloc}
-use Rattle.oc_neutral.specs.declared.reloc.Target.{Target}
-use Rattle.oc_neutral.specs.declared.reloc.Target.TheVariants as target
-use Rattle.oc_neutral.specs.declared.symbol.Symbol.{Symbol}
-use Rattle.oc_neutral.specs.Building.{Draft, is_zero}
-use Rattle.oc_shows.specs.Built.{HasAdded, IsStarted}
-use Rattle.oc_shows.specs.Computed.{computed_symbol, position_of}
-use Rattle.oc_neutral.specs.Faces.{number_of}
-use Rattle.oc_neutral.specs.Invariants.{AreBytes, CanAdd, IsBinding, IsLessThere, IsTargetThere, NamesOriginal}
+use Rattle.oc_neutral.specs.{declared.reloc.Reloc.{Reloc}, declared.reloc.Target.{Target}, declared.symbol.Symbol.{Symbol}, Building.{Draft, is_zero}}
+use Rattle.oc_neutral.specs.{Faces.{number_of}, Invariants.{AreBytes, CanAdd, IsBinding, IsLessThere, IsTargetThere, NamesOriginal}}
 use Rattle.oc_neutral.specs.Normal.{Place, local_place, place_among}
-use Rattle.oc_shows.specs.Started.{stored_section}
-use Rattle.oc_omf.specs.declared.structures.Fixup.{Fixup}
-use Rattle.oc_omf.specs.declared.structures.Method.{Method}
-use Rattle.oc_omf.specs.declared.structures.Segment.{Segment}
-use Rattle.oc_omf.specs.Entries.{Entry, entries_in}
-use Rattle.oc_omf.specs.Fields.{fixups_in}
-use Rattle.oc_omf.specs.Fixups.{Fixed}
-use Rattle.oc_omf.specs.RelocationFaults.{relocation_stages}
-use Rattle.oc_omf.specs.Rules.{omf_dialect}
-use Rattle.oc_omf.specs.SectionFaults.{section_stage}
-use Rattle.oc_omf.specs.Sections.{is_covered, section_of, sections_in, segment_kind, segment_size}
-use Rattle.oc_omf.specs.Structures.{External}
-use Rattle.oc_omf.specs.SymbolFaults.{symbol_stages}
-use Rattle.oc_omf.specs.Symbols.{external_mention, symbols_in}
+use Rattle.oc_neutral.specs.declared.reloc.Target.TheVariants as target
+use Rattle.oc_shows.specs.{Built.{HasAdded, IsStarted}, Computed.{computed_symbol, position_of}, Started.{stored_section}}
+use Rattle.oc_omf.specs.{declared.structures.Fixup.{Fixup}, declared.structures.Method.{Method}, declared.structures.Segment.{Segment}}
+use Rattle.oc_omf.specs.{Entries.{Entry, entries_in}, Fields.{fixups_in}, Fixups.{Fixed}, RelocationFaults.{relocation_stages}, Rules.{omf_dialect}}
+use Rattle.oc_omf.specs.{SectionFaults.{section_stage}, Sections.{is_covered, section_of, sections_in, segment_kind, segment_size}, Structures.{External}}
+use Rattle.oc_omf.specs.{SymbolFaults.{symbol_stages}, Symbols.{external_mention, symbols_in}, Tables.{indexed, is_there, name_at, tables_of}}
+use Rattle.oc_omf.specs.Targets.{Meaning, external_at, meaning_of, target_of}
 use Rattle.oc_omf.specs.Symbols as symbols_
 use Rattle.oc_omf.specs.Tables as all
-use Rattle.oc_omf.specs.Tables.{indexed, is_there, name_at, tables_of}
-use Rattle.oc_omf.specs.Targets.{Meaning, external_at, meaning_of, target_of}
-use Rattle.oc_omf_read.specs.declared.fields.FixupField.{FixupField}
-use Rattle.oc_omf_read.specs.declared.fix.Fix.{Fix}
-use Rattle.oc_omf_read.specs.declared.fix.FixupFrame.{FixupFrame}
-use Rattle.oc_omf_read.specs.Aims.{fix_by, framed_of}
-use Rattle.oc_omf_read.specs.Built.{started}
-use Rattle.oc_omf_read.specs.Fields.{fields_of, given_with, is_among}
-use Rattle.oc_omf_read.specs.Given.{against, given_at}
-use Rattle.oc_omf_read.proofs.BuildLemmas.{as_many_sections, section_at}
-use Rattle.oc_omf_read.proofs.FixLemmas.{reloc_as}
-use Rattle.oc_omf_read.proofs.GivenFields.{number_stands}
+use Rattle.oc_omf_read.specs.{declared.fields.FixupField.{FixupField}, declared.fix.Fix.{Fix}, declared.fix.FixupFrame.{FixupFrame}, Aims.{fix_by, framed_of}}
+use Rattle.oc_omf_read.specs.{Built.{started}, Fields.{fields_of, given_with, is_among}, Given.{against, given_at}}
+use Rattle.oc_omf_read.proofs.{BuildLemmas.{as_many_sections, section_at}, FixLemmas.{reloc_as}, GivenFields.{number_stands}}
 use Rattle.oc_omf_read.proofs.ListedFields.{IsListed, IsStanding, among_same, field_given, fix_made, given_standing, listed_at, not_among, standing_among}
 use Rattle.oc_omf_read.proofs.PlacedFixups.{IsAt, at_inside, good, sound}
 use Rattle.oc_omf_read.proofs.StandingFields.{are_apart, are_of_file, differences_fit, standing_less, standing_target, standing_width}
-use Rattle.oc_omf_read.proofs.StartLemmas.{symbol_number, zero_uncovered}
-use Rattle.oc_omf_read.proofs.WholeSymbols.{symbol_whole}
+use Rattle.oc_omf_read.proofs.{StartLemmas.{symbol_number, zero_uncovered}, WholeSymbols.{symbol_whole}}
 use Rattle.oc_shows.proofs.AddedLaws.{AreAddable, IsTaken, taken}
 use Rattle.oc_target.proofs.KeyPlaces.{either_way}
 

@@ -1,50 +1,29 @@
 -- What externals, groups and segments are that frames and targets name.
 use Rattle.std.proofs.Common.{◌≡◌, ℕ, zero, suc, ◌+◌, ◌-◌, ◌<◌, Bool, true, false, cond, List, [], ◌∷◌, ◌++◌, length, map, Option, None, Some, refl, sym, ◌∙◌, ap, arith}
-use Rattle.std.specs.Prelude.{◌&&◌, nat_eq, bytes_eq, codes, filter_map, flat_map, slice_get}
-use Rattle.std.specs.List.{enumerate_from, list_any}
+use Rattle.std.specs.{Prelude.{◌&&◌, nat_eq, bytes_eq, codes, filter_map, flat_map, slice_get}, List.{enumerate_from, list_any}}
 use Rattle.std.specs.Option.{option_and_then, option_map, option_map_or}
-use Rattle.std.proofs.lemmas.Bool.{eq-eqb, ne_eqb}
-use Rattle.std.proofs.lemmas.List.{length-map, append_assoc, map-append}
-use Rattle.std.proofs.lemmas.Option.{none-some, same_Some, slice_get-map, slice_get_past, slice_get_within}
-use Rattle.std.proofs.lemmas.Map.Keys.{any_passes_from_place}
-use Rattle.oc_linking.specs.declared.terms.Keep.{Keep}
-use Rattle.oc_linking.specs.declared.terms.Kind.{Kind}
-use Rattle.oc_linking.specs.Keeping.{keeps}
+use Rattle.std.proofs.lemmas.{Bool.{eq-eqb, ne_eqb}, List.{length-map, append_assoc, map-append}}
+use Rattle.std.proofs.lemmas.{Option.{none-some, same_Some, slice_get-map, slice_get_past, slice_get_within}, Map.Keys.{any_passes_from_place}}
+use Rattle.oc_linking.specs.{declared.terms.Keep.{Keep}, declared.terms.Kind.{Kind}, Keeping.{keeps}, Targets.{named_by, symbol_target}, Values.{numbered}}
 use Rattle.oc_linking.specs.Parts as parts
 use Rattle.oc_linking.specs.Rules as rules
 use Rattle.oc_linking.specs.Targets as file
-use Rattle.oc_linking.specs.Targets.{named_by, symbol_target}
-use Rattle.oc_linking.specs.Values.{numbered}
 use Rattle.oc_shows.specs.Computed.{position_of}
 use Rattle.oc_neutral.specs.declared.reloc.Target.TheVariants as target
 use Rattle.oc_shelf.proofs.WritingLaws.MemberLemmas.{each_flat_map, member_flat_map, member_map, member_second, of_map}
-use Rattle.oc_omf.specs.declared.structures.Communal.{Communal}
-use Rattle.oc_omf.specs.declared.structures.Method.{Method}
-use Rattle.oc_omf.specs.declared.structures.Segment.{Segment}
-use Rattle.oc_omf.specs.Entries.{Entry, all_read}
-use Rattle.oc_omf.specs.Sections.{segment_kind}
-use Rattle.oc_omf.specs.Structures.{External, Group, Public}
-use Rattle.oc_omf.specs.Symbols.{Mention, external_mention, mentions_in, number_of, same_symbol, symbol_of, symbols_in}
-use Rattle.oc_omf.specs.Tables as all
-use Rattle.oc_omf.specs.Tables.{indexed, name_at, tables_of}
+use Rattle.oc_omf.specs.{declared.structures.Communal.{Communal}, declared.structures.Method.{Method}, declared.structures.Segment.{Segment}}
+use Rattle.oc_omf.specs.{Entries.{Entry, all_read}, Sections.{segment_kind}, Structures.{External, Group, Public}}
+use Rattle.oc_omf.specs.{Symbols.{Mention, external_mention, mentions_in, number_of, same_symbol, symbol_of, symbols_in}, Tables.{indexed, name_at, tables_of}}
 use Rattle.oc_omf.specs.Targets.{external_at, is_flat, meaning_of}
+use Rattle.oc_omf.specs.Tables as all
 use Rattle.oc_omf.proofs.EntryLemmas.{numbered_at}
-use Rattle.oc_omf_judge.specs.declared.defined.Defined.{Defined}
-use Rattle.oc_omf_read.specs.declared.mentioned.Mentioned.{Mentioned}
-use Rattle.oc_omf_read.specs.declared.mentioned.Mentions.{Mentions}
-use Rattle.oc_omf_read.specs.Aims.{external_aim, is_kept, symbol_named}
-use Rattle.oc_omf_read.specs.Bindings.{binding_seen, place_binding}
-use Rattle.oc_omf_read.specs.Declarations.{Declaration, of_external, of_public, declarations_by, declarations_in}
-use Rattle.oc_omf_read.specs.Mentioned.{HasDeclarations, ModuleSymbol, external_number, mention_of, mentioned_symbols, seen_in, seen_of}
-use Rattle.oc_omf_judge.specs.Defined.{IsDefined}
-use Rattle.oc_omf_read.specs.Sections.{kind_in}
-use Rattle.oc_omf_read.proofs.BindingLemmas.{binding_is, mentions_are}
-use Rattle.oc_omf_read.proofs.ContentLemmas.{indexed_is, known_kind}
-use Rattle.oc_omf_read.proofs.GivenFields.{number_stands}
-use Rattle.oc_omf_read.proofs.HearLemmas.{symbol_at}
+use Rattle.oc_omf_judge.specs.{declared.defined.Defined.{Defined}, Defined.{IsDefined}}
+use Rattle.oc_omf_read.specs.{declared.mentioned.Mentioned.{Mentioned}, declared.mentioned.Mentions.{Mentions}, Aims.{external_aim, is_kept, symbol_named}}
+use Rattle.oc_omf_read.specs.{Bindings.{binding_seen, place_binding}, Declarations.{Declaration, of_external, of_public, declarations_by, declarations_in}}
+use Rattle.oc_omf_read.specs.{Mentioned.{HasDeclarations, ModuleSymbol, external_number, mention_of, mentioned_symbols, seen_in, seen_of}, Sections.{kind_in}}
+use Rattle.oc_omf_read.proofs.{BindingLemmas.{binding_is, mentions_are}, ContentLemmas.{indexed_is, known_kind}, GivenFields.{number_stands}}
+use Rattle.oc_omf_read.proofs.{HearLemmas.{symbol_at}, MentionLemmas.{any_mentioned}, StartLemmas.{symbol_number}}
 use Rattle.oc_omf_judge.proofs.MentionLemmas.{same_self}
-use Rattle.oc_omf_read.proofs.MentionLemmas.{any_mentioned}
-use Rattle.oc_omf_read.proofs.StartLemmas.{symbol_number}
 
 -- ... numbers of externals
 

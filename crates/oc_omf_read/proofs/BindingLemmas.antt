@@ -1,16 +1,10 @@
 -- The symbols of a module are what is seen of its mentions.
 use Rattle.std.proofs.Common.{◌≡◌, ℕ, Bool, true, false, cond, List, [], ◌∷◌, ◌++◌, map, Option, None, Some, refl, sym, ◌∙◌, ap}
-use Rattle.std.specs.Prelude.{◌&&◌, find, flat_map, fold}
-use Rattle.std.specs.Option.{is_some, option_and_then, option_map, option_map_or}
-use Rattle.std.proofs.lemmas.Bool.{true≢false}
-use Rattle.std.proofs.lemmas.List.{map-append}
-use Rattle.std.proofs.lemmas.Option.{none-some, same_Some}
-use Rattle.oc_linking.specs.declared.terms.Binding.TheVariants.{Undefined, Common}
-use Rattle.oc_linking.specs.Numbers.{or_else}
+use Rattle.std.specs.{Prelude.{◌&&◌, find, flat_map, fold}, Option.{is_some, option_and_then, option_map, option_map_or}}
+use Rattle.std.proofs.lemmas.{Bool.{true≢false}, List.{map-append}, Option.{none-some, same_Some}}
+use Rattle.oc_linking.specs.{declared.terms.Binding.TheVariants.{Undefined, Common}, Numbers.{or_else}}
 use Rattle.oc_neutral.specs.Powers.{natural_align}
-use Rattle.oc_omf.specs.declared.structures.Communal.{Communal}
-use Rattle.oc_omf.specs.Structures.{External, Public}
-use Rattle.oc_omf.specs.Entries.{Entry, all_read}
+use Rattle.oc_omf.specs.{declared.structures.Communal.{Communal}, Structures.{External, Public}, Entries.{Entry, all_read}}
 use Rattle.oc_omf.specs.Symbols.{Mention, binding_of, communal_of, entry_mentions, external_mention, mentions_in, public_binding, public_mention, public_of, same_symbol, with_new}
 use Rattle.oc_omf.specs.Tables.{tables_of}
 use Rattle.oc_omf_read.specs.declared.declarations.DeclarationKind.TheVariants as what

@@ -1,42 +1,26 @@
 -- The sections of a module without faults, added one after the other.
 use Rattle.std.proofs.Common.{◌≡◌, ℕ, zero, suc, ◌+◌, ◌<◌, ◌≤◌, cond, List, [], ◌∷◌, length, map, take, get_or, Option, None, Some, Ok, refl, sym, ◌∙◌, ap, arith}
-use Rattle.std.specs.Prelude.{slice_get, Vec}
-use Rattle.std.specs.Global.{Global}
-use Rattle.std.specs.List.{enumerate_from, sum_by}
-use Rattle.std.specs.Option.{option_and_then, option_map, option_map_or}
-use Rattle.std.proofs.lemmas.List.{length-map, length-take-le, map-append}
-use Rattle.std.proofs.lemmas.List.FromFn.{length-enumerate_from}
-use Rattle.std.proofs.lemmas.List.Sums.{sum_by-cons, sum_by_more_le}
-use Rattle.std.proofs.Math.Seq.{take-length}
+use Rattle.std.specs.{Prelude.{slice_get, Vec}, Global.{Global}, List.{enumerate_from, sum_by}, Option.{option_and_then, option_map, option_map_or}}
+use Rattle.std.proofs.lemmas.{List.{length-map, length-take-le, map-append}, List.FromFn.{length-enumerate_from}, List.Sums.{sum_by-cons, sum_by_more_le}}
 use Rattle.std.proofs.lemmas.Option.{get_or_from_slice_get, slice_get-map, slice_get_within}
+use Rattle.std.proofs.Math.Seq.{take-length}
 use Rattle.oc_base.specs.declared.format.Format.TheVariants.{Omf}
-use Rattle.oc_linking.specs.declared.terms.Kind.{Kind}
-use Rattle.oc_linking.specs.declared.terms.Kind.TheVariants.{Code, ReadOnly, Data, Zero, Init, Fini, Debug, Exception, Note}
+use Rattle.oc_linking.specs.{declared.terms.Kind.{Kind}, declared.terms.Kind.TheVariants.{Code, ReadOnly, Data, Zero, Init, Fini, Debug, Exception, Note}}
 use Rattle.oc_linking.specs.FirstFault.{stage_fault}
 use Rattle.oc_linking.specs.Parts as parts
-use Rattle.oc_neutral.specs.KindRules.{same_kind}
-use Rattle.oc_neutral.specs.declared.section.Section.{Section}
-use Rattle.oc_neutral.specs.Building.{is_zero, limit_passed, section_added, size_sum, stored_size, stored_sum}
-use Rattle.oc_neutral.specs.Invariants.{HasItsBytes}
+use Rattle.oc_neutral.specs.{KindRules.{same_kind}, declared.section.Section.{Section}}
+use Rattle.oc_neutral.specs.{Building.{is_zero, limit_passed, section_added, size_sum, stored_size, stored_sum}, Invariants.{HasItsBytes}}
 use Rattle.oc_shows.specs.Started.{plain_draft, stored_section}
-use Rattle.oc_shows.proofs.BuiltSteps.{within}
-use Rattle.oc_neutral.proofs.FieldLists.{take_here}
-use Rattle.oc_neutral.proofs.LeftObject.{sum_map}
-use Rattle.oc_shows.proofs.StartedLaws.{section_more}
-use Rattle.oc_omf.specs.declared.structures.Segment.{Segment}
-use Rattle.oc_omf.specs.Entries.{entries_in}
-use Rattle.oc_omf.specs.HeaderFaults.{IsModule}
-use Rattle.oc_omf.specs.Sections.{section_of, sections_in, segment_kind, segment_size}
-use Rattle.oc_omf.specs.SectionFaults.{all_bytes, bytes_size, section_stage}
-use Rattle.oc_omf.specs.Tables as all
+use Rattle.oc_shows.proofs.{BuiltSteps.{within}, StartedLaws.{section_more}}
+use Rattle.oc_neutral.proofs.{FieldLists.{take_here}, LeftObject.{sum_map}}
+use Rattle.oc_omf.specs.{declared.structures.Segment.{Segment}, Entries.{entries_in}, HeaderFaults.{IsModule}}
+use Rattle.oc_omf.specs.{Sections.{section_of, sections_in, segment_kind, segment_size}, SectionFaults.{all_bytes, bytes_size, section_stage}}
 use Rattle.oc_omf.specs.Tables.{tables_of}
-use Rattle.oc_omf_judge.specs.declared.defined.Defined.{Defined}
-use Rattle.oc_omf_read.specs.Built.{AreBytesOf, HasLength, section_as, section_by, sectioned}
+use Rattle.oc_omf.specs.Tables as all
+use Rattle.oc_omf_judge.specs.{declared.defined.Defined.{Defined}, Defined.{IsDefined}}
+use Rattle.oc_omf_read.specs.{Built.{AreBytesOf, HasLength, section_as, section_by, sectioned}, Sections.{kind_in}}
 use Rattle.oc_omf_read.specs.Contents as contents
-use Rattle.oc_omf_judge.specs.Defined.{IsDefined}
-use Rattle.oc_omf_read.specs.Sections.{kind_in}
-use Rattle.oc_omf_read.proofs.ContentLemmas.{good_segment, known_kind, known_name}
-use Rattle.oc_omf_read.proofs.SumLemmas.{bytes_few, sizes_few}
+use Rattle.oc_omf_read.proofs.{ContentLemmas.{good_segment, known_kind, known_name}, SumLemmas.{bytes_few, sizes_few}}
 
 numbered_at : {X : Type 0} (n : ℕ) (xs : List X) (i : ℕ) → slice_get (enumerate_from n xs) i ≡ option_map (λ x. (i + n, x)) (slice_get xs i)
 numbered_at n [] zero = refl

@@ -1,18 +1,13 @@
 -- What an entry says, by what it speaks of.
 use Rattle.std.proofs.Common.{◌≡◌, ℕ, ◌⊎◌, inl, inr, Bool, true, false, cond, List, [], ◌∷◌, Some, None, Ok, Err, refl, ap}
-use Rattle.std.specs.Prelude.{◌||◌, ◌+◌, nat_eq, Result}
+use Rattle.std.specs.{Prelude.{◌||◌, ◌+◌, nat_eq, Result}, Option.{unwrap_or}}
 use Rattle.std.proofs.lemmas.Bool.{eqb-true}
-use Rattle.std.specs.Option.{unwrap_or}
 use Rattle.oc_omf.specs.declared.constants.TheConstants.{EXTDEF, PUBDEF, LNAMES, SEGDEF, GRPDEF, FIXUPP, LEDATA, LIDATA, COMDEF, LEXTDEF, LPUBDEF, MODEND}
-use Rattle.oc_omf.specs.declared.cut.Cut.{Cut}
-use Rattle.oc_omf.specs.declared.structures.PublicBase.{PublicBase}
-use Rattle.oc_omf.specs.Cursor.{Reading, Read, each_read, name_read}
+use Rattle.oc_omf.specs.{declared.cut.Cut.{Cut}, declared.structures.PublicBase.{PublicBase}, Cursor.{Reading, Read, each_read, name_read}}
 use Rattle.oc_omf.specs.Structures.{Public, segment_read, group_read, base_read, public_read, external_read, communal_read, piece_read, subrecord_read}
 use Rattle.oc_omf.specs.Entries.{Entry, all_read, even_of, is_kind, is_wide, says_nothing, in_file, whole, publics_of, said_by}
-use Rattle.oc_omf_read.specs.declared.class.EntryClass.{EntryClass}
+use Rattle.oc_omf_read.specs.{declared.class.EntryClass.{EntryClass}, Classes.{class_of}, Defined.{read_in}}
 use Rattle.oc_omf_read.specs.declared.class.EntryClass.TheVariants as class
-use Rattle.oc_omf_read.specs.Classes.{class_of}
-use Rattle.oc_omf_read.specs.Defined.{read_in}
 
 -- the symbols of an entry, behind its base
 abbrev pub publics_by : Bool → Bool → ℕ → List ℕ → Reading PublicBase → List (Read Public)

@@ -1,38 +1,21 @@
 -- Fixups of a module without a fault of relocations: each that is judged has a row, and meets none before it.
 use Rattle.std.proofs.Common.{◌≡◌, ℕ, zero, suc, ◌+◌, ◌<◌, ◌≤◌, Bool, true, false, cond, List, [], ◌∷◌, ◌++◌, length, take, Option, None, Some, Result, Ok, Err, refl, sym, ◌∙◌, ap, subst, arith, append-nil, drop, length-append}
-use Rattle.std.specs.Prelude.{◌&&◌, not, nat_eq, nat_le, flat_map, slice_get}
-use Rattle.std.proofs.lemmas.Bool.Decides.{nat_tests}
-use Rattle.std.specs.List.{AllByRecursion, enumerate_from, list_any}
-use Rattle.std.specs.Option.{option_map_or}
-use Rattle.std.proofs.lemmas.Grind.{flat_map-append}
-use Rattle.std.proofs.lemmas.List.{append_assoc, take-append-drop}
-use Rattle.std.proofs.lemmas.Option.{none-some, same_Some, slice_get_within}
-use Rattle.std.proofs.lemmas.Bool.{not-false}
-use Rattle.oc_linking.specs.declared.terms.Keep.{Keep}
-use Rattle.oc_linking.specs.Numbers.{or_else}
-use Rattle.oc_linking.specs.FirstFault.{fault_of, first_broken, first_fault}
+use Rattle.std.specs.{Prelude.{◌&&◌, not, nat_eq, nat_le, flat_map, slice_get}, List.{AllByRecursion, enumerate_from, list_any}, Option.{option_map_or}}
+use Rattle.std.proofs.lemmas.{Bool.Decides.{nat_tests}, Grind.{flat_map-append}, List.{append_assoc, take-append-drop}}
+use Rattle.std.proofs.lemmas.{Option.{none-some, same_Some, slice_get_within}, Bool.{not-false}}
+use Rattle.oc_linking.specs.{declared.terms.Keep.{Keep}, Numbers.{or_else}, FirstFault.{fault_of, first_broken, first_fault}}
 use Rattle.oc_base.specs.declared.code.Code.TheVariants.{BadTarget}
-use Rattle.oc_neutral.proofs.FieldLists.{take_here}
-use Rattle.oc_neutral.proofs.Mapped.{all_from}
-use Rattle.oc_shelf.proofs.WritingLaws.MemberLemmas.{each_enumerated, each_flat_map, each_map}
-use Rattle.oc_shelf.proofs.ReadingLaws.StageLemmas.{all_hold, clean_at}
-use Rattle.oc_omf.specs.declared.constants.TheConstants.{OFFSET_32}
-use Rattle.oc_omf.specs.declared.cut.Cut.{Cut}
-use Rattle.oc_omf.specs.declared.structures.Datum.{Datum}
-use Rattle.oc_omf.specs.declared.structures.Datum.TheVariants as datum
-use Rattle.oc_omf.specs.declared.structures.Fixup.{Fixup}
-use Rattle.oc_omf.specs.declared.structures.Method.{Method}
-use Rattle.oc_omf.specs.declared.structures.Thread.{Thread}
-use Rattle.oc_omf.specs.declared.structures.Subrecord.{Subrecord}
-use Rattle.oc_omf.specs.declared.structures.Subrecord.TheVariants as subrecord
-use Rattle.oc_omf.specs.Cursor.{Read}
-use Rattle.oc_omf.specs.Entries.{Entry, all_read}
-use Rattle.oc_omf.specs.Symbols.{agree}
-use Rattle.oc_omf.specs.Tables.{Tables, is_there, tables_of}
-use Rattle.oc_omf.specs.Fields.{aim_of, fixups_in}
+use Rattle.oc_neutral.proofs.{FieldLists.{take_here}, Mapped.{all_from}}
+use Rattle.oc_shelf.proofs.{WritingLaws.MemberLemmas.{each_enumerated, each_flat_map, each_map}, ReadingLaws.StageLemmas.{all_hold, clean_at}}
+use Rattle.oc_omf.specs.{declared.constants.TheConstants.{OFFSET_32}, declared.cut.Cut.{Cut}, declared.structures.Datum.{Datum}}
+use Rattle.oc_omf.specs.{declared.structures.Fixup.{Fixup}, declared.structures.Method.{Method}, declared.structures.Thread.{Thread}}
+use Rattle.oc_omf.specs.{declared.structures.Subrecord.{Subrecord}, Cursor.{Read}, Entries.{Entry, all_read}, Symbols.{agree}}
+use Rattle.oc_omf.specs.{Tables.{Tables, is_there, tables_of}, Fields.{aim_of, fixups_in}}
 use Rattle.oc_omf.specs.Fixups.{Fixed, PlacedSubrecord, fixed_from, fixed_in, fixed_of, is_inside, meet, method_of, subrecords_by, subrecords_upto, thread_after, thread_by, with_fixed}
 use Rattle.oc_omf.specs.RelocationFaults.{fixup_conditions, has_row, is_datum_there, is_judged, relocation_conditions, relocation_fault, relocation_stage, relocation_stages}
 use Rattle.oc_omf.specs.Targets.{Meaning, meaning_of}
+use Rattle.oc_omf.specs.declared.structures.Datum.TheVariants as datum
+use Rattle.oc_omf.specs.declared.structures.Subrecord.TheVariants as subrecord
 use Rattle.oc_omf.proofs.EntryLemmas.{numbered_at}
 use Rattle.oc_omf_judge.proofs.StateLaws.{thread_more}
 use Rattle.oc_omf_read.proofs.LocalLemmas.{stage_clean}

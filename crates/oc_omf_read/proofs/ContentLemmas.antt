@@ -1,37 +1,23 @@
 -- The bytes of segments, data by data.
 use Rattle.std.proofs.Common.{◌≡◌, ℕ, zero, suc, ◌+◌, ◌-◌, ◌^◌, ◌<◌, ◌≤◌, inl, inr, Bool, true, false, cond, List, [], ◌∷◌, ◌++◌, length, take, drop, replicate, get_or, Option, None, Some, refl, sym, ◌∙◌, ap, arith, length-append, length-take, length-drop}
-use Rattle.std.specs.Prelude.{◌||◌, ◌&&◌, filter, flat_map, fold, nat_eq, nat_le, nat_lt, slice_get, Vec}
-use Rattle.std.specs.Global.{Global}
-use Rattle.std.specs.List.{AllByRecursion, sum_by}
+use Rattle.std.specs.{Prelude.{◌||◌, ◌&&◌, filter, flat_map, fold, nat_eq, nat_le, nat_lt, slice_get, Vec}, Global.{Global}, List.{AllByRecursion, sum_by}}
 use Rattle.std.specs.Option.{option_map, option_map_or, unwrap_or}
-use Rattle.std.proofs.lemmas.Bool.{eqb-true, ne_eqb, true≢false, cases_eq}
-use Rattle.std.proofs.lemmas.Bool.Decides.{nat_tests}
-use Rattle.std.proofs.lemmas.List.{length-replicate, take-append-drop}
-use Rattle.std.proofs.lemmas.List.Elements.{filter-append}
-use Rattle.std.proofs.lemmas.Grind.{flat_map-append, fold-append}
-use Rattle.std.proofs.lemmas.Option.{slice_get_within}
-use Rattle.oc_linking.specs.declared.terms.Kind.{Kind}
-use Rattle.oc_linking.specs.FirstFault.{first_broken, stage_fault}
-use Rattle.oc_neutral.specs.Building.{is_zero}
-use Rattle.oc_neutral.specs.Omf.Kinds.{omf_kind}
+use Rattle.std.proofs.lemmas.{Bool.{eqb-true, ne_eqb, true≢false, cases_eq}, Bool.Decides.{nat_tests}, List.{length-replicate, take-append-drop}}
+use Rattle.std.proofs.lemmas.{List.Elements.{filter-append}, Grind.{flat_map-append, fold-append}, Option.{slice_get_within}}
+use Rattle.oc_linking.specs.{declared.terms.Kind.{Kind}, FirstFault.{first_broken, stage_fault}}
+use Rattle.oc_neutral.specs.{Building.{is_zero}, Omf.Kinds.{omf_kind}}
 use Rattle.oc_neutral.proofs.Positions.{each_at}
 use Rattle.oc_shelf.proofs.ReadingLaws.CollectedLemmas.{front_at, last_at}
 use Rattle.oc_omf_records.specs.Blocks.{Blocks, denotation, size_of}
 use Rattle.oc_omf_records.proofs.CopyLaws.{length-denotation}
-use Rattle.oc_omf.specs.declared.structures.Segment.{Segment}
-use Rattle.oc_omf.specs.Structures.{Piece}
-use Rattle.oc_omf.specs.Entries.{Entry, all_read, entries_in}
+use Rattle.oc_omf.specs.{declared.structures.Segment.{Segment}, Structures.{Piece}, Entries.{Entry, all_read, entries_in}}
 use Rattle.oc_omf.specs.Sections.{blocks_in, contents_of, laid_over, piece_size, pieces_of, segment_kind, segment_size, size_at}
-use Rattle.oc_omf.specs.SectionFaults.{piece_conditions, section_stage, segment_conditions}
+use Rattle.oc_omf.specs.{SectionFaults.{piece_conditions, section_stage, segment_conditions}, Tables.{indexed, is_indexed, name_at, tables_of}}
 use Rattle.oc_omf.specs.Tables as all
-use Rattle.oc_omf.specs.Tables.{indexed, is_indexed, name_at, tables_of}
 use Rattle.oc_omf_judge.proofs.StateLaws.{tables_more}
-use Rattle.oc_omf_judge.specs.declared.defined.Defined.{Defined}
-use Rattle.oc_omf_read.specs.Contents.{AreStored, items_at, laid_all, laid_by, size_in, stored, stored_size}
-use Rattle.oc_omf_judge.specs.Defined.{IsDefined}
-use Rattle.oc_omf_read.specs.Sections.{kind_in, name_in}
-use Rattle.oc_omf_read.proofs.DefinedLemmas.{tables_upto}
-use Rattle.oc_omf_read.proofs.SoundEntries.{IsSoundPiece, IsSoundSegment, entry_sound, piece_sound, segment_sound}
+use Rattle.oc_omf_judge.specs.{declared.defined.Defined.{Defined}, Defined.{IsDefined}}
+use Rattle.oc_omf_read.specs.{Contents.{AreStored, items_at, laid_all, laid_by, size_in, stored, stored_size}, Sections.{kind_in, name_in}}
+use Rattle.oc_omf_read.proofs.{DefinedLemmas.{tables_upto}, SoundEntries.{IsSoundPiece, IsSoundSegment, entry_sound, piece_sound, segment_sound}}
 
 -- ... vectors
 

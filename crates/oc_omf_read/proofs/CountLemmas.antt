@@ -1,22 +1,15 @@
 -- A module has fewer mentions of symbols than bytes.
 use Rattle.std.proofs.Common.{◌≡◌, ℕ, zero, suc, ◌+◌, ◌-◌, ◌≤◌, Bool, true, false, cond, List, [], ◌∷◌, length, map, drop, min, None, Some, Ok, Err, refl, ◌∙◌, ap, arith, length-append, length-take, length-drop}
-use Rattle.std.specs.Prelude.{flat_map, nat_lt, Result}
-use Rattle.std.specs.Option.{option_map_or}
-use Rattle.std.proofs.lemmas.List.{length-map}
-use Rattle.std.proofs.lemmas.Option.{none-some, same_Some}
-use Rattle.oc_omf_records.specs.declared.records.Entry.{Entry as Record}
-use Rattle.oc_omf_records.specs.NextEntry.{end_of_entry, entry_of}
-use Rattle.oc_omf.specs.declared.cut.Cut.{Cut}
-use Rattle.oc_omf.specs.declared.structures.PublicBase.{PublicBase}
-use Rattle.oc_omf.specs.Cursor.{Reading, Read, and_more, each_read, each_upto}
+use Rattle.std.specs.{Prelude.{flat_map, nat_lt, Result}, Option.{option_map_or}}
+use Rattle.std.proofs.lemmas.{List.{length-map}, Option.{none-some, same_Some}}
+use Rattle.oc_omf_records.specs.{declared.records.Entry.{Entry as Record}, NextEntry.{end_of_entry, entry_of}}
+use Rattle.oc_omf.specs.{declared.cut.Cut.{Cut}, declared.structures.PublicBase.{PublicBase}, Cursor.{Reading, Read, and_more, each_read, each_upto}}
 use Rattle.oc_omf.specs.Structures.{External, base_read, communal_read, external_read, public_read}
 use Rattle.oc_omf.specs.Entries.{Entry, all_read, entries_in, is_last, is_wide, next_place, places_in, places_upto, said_at}
 use Rattle.oc_omf.proofs.PlaceLemmas.{next_inside}
-use Rattle.oc_omf_read.specs.declared.class.EntryClass.{EntryClass}
-use Rattle.oc_omf_read.specs.declared.class.EntryClass.TheVariants as class
-use Rattle.oc_omf_read.specs.Classes.{class_of}
-use Rattle.oc_omf_read.specs.Defined.{said}
+use Rattle.oc_omf_read.specs.{declared.class.EntryClass.{EntryClass}, Classes.{class_of}, Defined.{said}}
 use Rattle.oc_omf_read.specs.Declarations.{of_external, of_public, publics_behind, public_declarations, declarations_by, declarations_in}
+use Rattle.oc_omf_read.specs.declared.class.EntryClass.TheVariants as class
 use Rattle.oc_omf_read.proofs.DefinedLemmas.{said_by_class}
 use Rattle.oc_omf_read.proofs.DeclarationLemmas.{communals_are, externals_are, local_externals_are, local_publics_are, publics_are}
 

@@ -1,23 +1,16 @@
 -- The mentions of symbols, entry by entry.
 use Rattle.std.proofs.Common.{◌≡◌, ℕ, ◌+◌, ◌⊎◌, inl, inr, Bool, true, false, List, [], ◌∷◌, ◌++◌, length, map, take, Some, Ok, Err, refl, sym, ◌∙◌, ap, append-nil, append_assoc}
 use Rattle.std.specs.Prelude.{flat_map, slice_get}
-use Rattle.std.proofs.lemmas.List.{map-append}
-use Rattle.std.proofs.lemmas.Grind.{flat_map-append}
+use Rattle.std.proofs.lemmas.{List.{map-append}, Grind.{flat_map-append}}
 use Rattle.std.proofs.Math.Seq.{take-length}
 use Rattle.oc_neutral.proofs.FieldLists.{take_here}
 use Rattle.oc_omf_records.specs.declared.records.Entry.{Entry as Record}
-use Rattle.oc_omf.specs.declared.structures.PublicBase.{PublicBase}
-use Rattle.oc_omf.specs.Cursor.{Reading, each_read}
-use Rattle.oc_omf.specs.Structures.{base_read, communal_read, external_read, public_read}
-use Rattle.oc_omf.specs.Entries.{Entry, all_read, entries_in, is_wide, places_in}
-use Rattle.oc_omf_read.specs.declared.class.EntryClass.{EntryClass}
-use Rattle.oc_omf_read.specs.declared.class.EntryClass.TheVariants as class
-use Rattle.oc_omf_read.specs.declared.declarations.DeclarationRef.{DeclarationRef}
-use Rattle.oc_omf_read.specs.Classes.{class_of}
-use Rattle.oc_omf_read.specs.Defined.{said}
+use Rattle.oc_omf.specs.{declared.structures.PublicBase.{PublicBase}, Cursor.{Reading, each_read}}
+use Rattle.oc_omf.specs.{Structures.{base_read, communal_read, external_read, public_read}, Entries.{Entry, all_read, entries_in, is_wide, places_in}}
+use Rattle.oc_omf_read.specs.{declared.class.EntryClass.{EntryClass}, declared.declarations.DeclarationRef.{DeclarationRef}, Classes.{class_of}, Defined.{said}}
 use Rattle.oc_omf_read.specs.Declarations.{Declaration, all_declarations, of_external, of_public, publics_behind, public_declarations, declarations_by, declarations_in, declaration_of}
-use Rattle.oc_omf_read.proofs.ClassLemmas.{publics_by}
-use Rattle.oc_omf_read.proofs.DefinedLemmas.{said_by_class}
+use Rattle.oc_omf_read.specs.declared.class.EntryClass.TheVariants as class
+use Rattle.oc_omf_read.proofs.{ClassLemmas.{publics_by}, DefinedLemmas.{said_by_class}}
 use Rattle.oc_omf_judge.proofs.StageLaws.{entry_count, read_in_file}
 
 -- one mention more, and those that are left

@@ -1,17 +1,11 @@
 -- What entries define, entry by entry.
 use Rattle.std.proofs.Common.{◌≡◌, ℕ, List, [], ◌∷◌, length, take, Some, refl, sym, ◌∙◌, ap}
-use Rattle.std.specs.Prelude.{slice_get}
+use Rattle.std.specs.{Prelude.{slice_get}, Option.{option_map}}
 use Rattle.std.proofs.lemmas.Option.{slice_get-map}
-use Rattle.std.specs.Option.{option_map}
-use Rattle.oc_omf_records.specs.declared.records.Entry.{Entry as Record}
-use Rattle.oc_omf_records.specs.NextEntry.{entry_of}
-use Rattle.oc_omf.specs.declared.constants.TheConstants.{MODEND}
-use Rattle.oc_omf.specs.Entries.{entries_in, is_kind, is_wide, places_in, said_at}
+use Rattle.oc_omf_records.specs.{declared.records.Entry.{Entry as Record}, NextEntry.{entry_of}}
+use Rattle.oc_omf.specs.{declared.constants.TheConstants.{MODEND}, Entries.{entries_in, is_kind, is_wide, places_in, said_at}, Tables.{tables_of}}
 use Rattle.oc_omf.specs.Tables as all
-use Rattle.oc_omf.specs.Tables.{tables_of}
-use Rattle.oc_omf_read.specs.declared.class.EntryClass.{EntryClass}
-use Rattle.oc_omf_read.specs.Classes.{class_of}
-use Rattle.oc_omf_read.specs.Defined.{said}
+use Rattle.oc_omf_read.specs.{declared.class.EntryClass.{EntryClass}, Classes.{class_of}, Defined.{said}}
 use Rattle.oc_omf_read.proofs.ClassLemmas.{said_as, said_is}
 use Rattle.oc_omf_judge.proofs.StageLaws.{entry_count}
 

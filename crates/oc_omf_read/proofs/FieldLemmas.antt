@@ -1,55 +1,28 @@
 -- Fields, fixup by fixup and entry by entry.
 use Rattle.std.proofs.Common.{◌≡◌, ℕ, ◌+◌, ◌<◌, ◌≤◌, ◌⊎◌, inl, inr, Bool, true, false, List, [], ◌∷◌, ◌++◌, length, map, take, Option, None, Some, Result, Ok, Err, refl, sym, ◌∙◌, ap, subst, arith, append-nil}
-use Rattle.std.specs.Prelude.{slice_get}
-use Rattle.std.specs.List.{AllByRecursion}
-use Rattle.std.specs.Option.{option_map_or}
-use Rattle.std.proofs.lemmas.Bool.{true≢false}
-use Rattle.std.proofs.lemmas.Grind.{flat_map-append}
-use Rattle.std.proofs.lemmas.List.{append_assoc}
-use Rattle.oc_linking.specs.declared.terms.Keep.{Keep}
-use Rattle.oc_linking.specs.Numbers.{or_else}
-use Rattle.oc_linking.specs.FirstFault.{stage_fault}
-use Rattle.oc_omf_records.specs.Blocks.{size_of}
-use Rattle.oc_omf_records.specs.declared.records.Entry.{Entry as Record}
-use Rattle.oc_omf.specs.declared.cut.Cut.{Cut}
-use Rattle.oc_omf.specs.declared.structures.Fixup.{Fixup}
-use Rattle.oc_omf.specs.declared.structures.Subrecord.{Subrecord}
-use Rattle.oc_omf.specs.declared.structures.Subrecord.TheVariants as subrecord
-use Rattle.oc_omf.specs.declared.structures.Thread.{Thread}
-use Rattle.oc_omf.specs.declared.threads.Threads.{Threads}
-use Rattle.oc_omf.specs.Cursor.{Read, each_read}
-use Rattle.oc_omf.specs.Entries.{Entry, all_read, entries_in, in_file, is_wide}
-use Rattle.oc_omf.specs.Fields.{fixups_in}
-use Rattle.oc_omf.specs.SectionFaults.{section_stage}
+use Rattle.std.specs.{Prelude.{slice_get}, List.{AllByRecursion}, Option.{option_map_or}}
+use Rattle.std.proofs.lemmas.{Bool.{true≢false}, Grind.{flat_map-append}, List.{append_assoc}}
+use Rattle.oc_linking.specs.{declared.terms.Keep.{Keep}, Numbers.{or_else}, FirstFault.{stage_fault}}
+use Rattle.oc_omf_records.specs.{Blocks.{size_of}, declared.records.Entry.{Entry as Record}}
+use Rattle.oc_omf.specs.{declared.cut.Cut.{Cut}, declared.structures.Fixup.{Fixup}, declared.structures.Subrecord.{Subrecord}}
+use Rattle.oc_omf.specs.{declared.structures.Thread.{Thread}, declared.threads.Threads.{Threads}, Cursor.{Read, each_read}}
+use Rattle.oc_omf.specs.{Entries.{Entry, all_read, entries_in, in_file, is_wide}, Fields.{fixups_in}, SectionFaults.{section_stage}}
 use Rattle.oc_omf.specs.Fixups.{Fixed, PlacedSubrecord, fixed_from, fixed_in, fixed_of, last_of, method_of, subrecords_by, subrecords_upto}
-use Rattle.oc_omf.specs.Known.{AreInForce, IsThreadTaken}
-use Rattle.oc_omf.specs.Sections.{blocks_in}
+use Rattle.oc_omf.specs.{Known.{AreInForce, IsThreadTaken}, Sections.{blocks_in}, Structures.{subrecord_read}, Tables.{tables_of}, Targets.{Meaning}}
+use Rattle.oc_omf.specs.declared.constants.TheConstants.{ENTRY_HEAD}
+use Rattle.oc_omf.specs.declared.structures.Subrecord.TheVariants as subrecord
 use Rattle.oc_omf.specs.Structures as structures
-use Rattle.oc_omf.specs.Structures.{subrecord_read}
 use Rattle.oc_omf.specs.Tables as all
-use Rattle.oc_omf.specs.Tables.{tables_of}
-use Rattle.oc_omf.specs.Targets.{Meaning}
 use Rattle.oc_omf.proofs.EachLemmas.{each_behind, each_cut, each_end, each_from, each_more}
 use Rattle.oc_omf_judge.specs.Threads.{method_by}
-use Rattle.oc_omf_judge.proofs.ReachedLemmas.{method_is}
-use Rattle.oc_omf_judge.proofs.StateLaws.{force_stays, force_thread, tables_more}
-use Rattle.oc_omf_judge.proofs.SubrecordLemmas.{subrecord_goes}
+use Rattle.oc_omf_judge.proofs.{ReachedLemmas.{method_is}, StateLaws.{force_stays, force_thread, tables_more}, SubrecordLemmas.{subrecord_goes}}
 use Rattle.oc_omf_judge.proofs.EntryLemmas.{last_push}
-use Rattle.oc_omf_read.specs.declared.class.EntryClass.{EntryClass}
-use Rattle.oc_omf_read.specs.declared.class.EntryClass.TheVariants as class
-use Rattle.oc_omf_read.specs.declared.fields.Behind.{Behind}
-use Rattle.oc_omf_read.specs.declared.fields.FixupField.{FixupField}
-use Rattle.oc_omf_read.specs.declared.fixes.FixupContext.{FixupContext}
-use Rattle.oc_omf_read.specs.declared.pieces.Piece.{Piece}
-use Rattle.oc_omf_read.specs.Aims.{meaning_seen}
-use Rattle.oc_omf_read.specs.Classes.{class_of}
-use Rattle.oc_omf_read.specs.Defined.{said}
-use Rattle.oc_omf_read.specs.Fields.{AreLow, HasData, HasFields, IsLast, fields_behind, fields_by, fields_for, fields_of, held}
+use Rattle.oc_omf_read.specs.{declared.class.EntryClass.{EntryClass}, declared.fields.Behind.{Behind}, declared.fields.FixupField.{FixupField}}
+use Rattle.oc_omf_read.specs.{declared.fixes.FixupContext.{FixupContext}, declared.pieces.Piece.{Piece}, Aims.{meaning_seen}, Classes.{class_of}}
+use Rattle.oc_omf_read.specs.{Defined.{said}, Fields.{AreLow, HasData, HasFields, IsLast, fields_behind, fields_by, fields_for, fields_of, held}}
 use Rattle.oc_omf_read.specs.Pieces.{ArePieces, IsPiece, row_in}
-use Rattle.oc_omf_read.proofs.CleanFixups.{fixed_behind, none_placed, placed_more}
-use Rattle.oc_omf_read.proofs.DefinedLemmas.{said_by_class}
-use Rattle.oc_omf_read.proofs.SoundPieces.{IsPlacedPiece, pieces_placed}
-use Rattle.oc_omf.specs.declared.constants.TheConstants.{ENTRY_HEAD}
+use Rattle.oc_omf_read.specs.declared.class.EntryClass.TheVariants as class
+use Rattle.oc_omf_read.proofs.{CleanFixups.{fixed_behind, none_placed, placed_more}, DefinedLemmas.{said_by_class}, SoundPieces.{IsPlacedPiece, pieces_placed}}
 
 -- ... one fixup
 

@@ -1,32 +1,19 @@
 -- What a fixup does is what its relocation is made of.
 use Rattle.std.proofs.Common.{◌≡◌, ℕ, ◌+◌, ◌-◌, Bool, true, false, cond, Option, None, Some, refl, ◌∙◌, ap}
-use Rattle.std.specs.Prelude.{◌||◌, nat_eq, ℤ}
-use Rattle.std.specs.Option.{option_and_then, option_map, option_map_or}
-use Rattle.oc_base.specs.declared.format.Word.TheVariants.{W32}
-use Rattle.oc_base.specs.Numbers.{number_at}
+use Rattle.std.specs.{Prelude.{◌||◌, nat_eq, ℤ}, Option.{option_and_then, option_map, option_map_or}}
+use Rattle.oc_base.specs.{declared.format.Word.TheVariants.{W32}, Numbers.{number_at}}
 use Rattle.oc_linking.specs.Parts as parts
 use Rattle.oc_linking.specs.Rules as rules
 use Rattle.oc_linking.specs.Targets as file
 use Rattle.oc_linking.specs.Targets.{symbol_target}
-use Rattle.oc_shows.specs.Computed.{position_of}
-use Rattle.oc_neutral.specs.declared.reloc.Reloc.{Reloc}
-use Rattle.oc_neutral.specs.declared.reloc.Target.{Target}
+use Rattle.oc_shows.specs.{Computed.{position_of}, RowValues.{row_reloc}}
+use Rattle.oc_neutral.specs.{declared.reloc.Reloc.{Reloc}, declared.reloc.Target.{Target}, Omf.Relocs.{BySelf, fixup_row}, Rows.{Row}}
 use Rattle.oc_neutral.specs.declared.reloc.Target.TheVariants as target
-use Rattle.oc_neutral.specs.Omf.Relocs.{BySelf, fixup_row}
-use Rattle.oc_neutral.specs.Rows.{Row}
-use Rattle.oc_shows.specs.RowValues.{row_reloc}
-use Rattle.oc_omf.specs.declared.structures.Method.{Method}
-use Rattle.oc_omf.specs.Fields.{added_at, row_of}
-use Rattle.oc_omf.specs.Fixups.{Fixed}
-use Rattle.oc_omf.specs.Sections.{contents_of, size_at}
-use Rattle.oc_omf.specs.Structures.{Piece}
+use Rattle.oc_omf.specs.{declared.structures.Method.{Method}, Fields.{added_at, row_of}, Fixups.{Fixed}, Sections.{contents_of, size_at}, Structures.{Piece}}
 use Rattle.oc_omf.specs.Targets.{Meaning, external_at, is_flat, is_home, same_named, section_target, target_of}
-use Rattle.oc_omf_read.specs.declared.fix.Fix.{Fix}
-use Rattle.oc_omf_read.specs.declared.fix.FixupFrame.{FixupFrame}
+use Rattle.oc_omf_read.specs.{declared.fix.Fix.{Fix}, declared.fix.FixupFrame.{FixupFrame}, Aims.{aim_by, fix_by, framed_by, framed_of, is_home_of}}
+use Rattle.oc_omf_read.specs.{Fixing.{added_by, framed_as}, Given.{against, reloc_by}}
 use Rattle.oc_omf_read.specs.declared.fix.FixupFrame.TheVariants as framed
-use Rattle.oc_omf_read.specs.Aims.{aim_by, fix_by, framed_by, framed_of, is_home_of}
-use Rattle.oc_omf_read.specs.Fixing.{added_by, framed_as}
-use Rattle.oc_omf_read.specs.Given.{against, reloc_by}
 
 module _ (m : Meaning) where
   -- the number in a field at an offset of the section at position s

@@ -1,39 +1,19 @@
 -- What is given are the fields of the module.
 use Rattle.std.proofs.Common.{◌≡◌, ℕ, suc, ◌+◌, ◌-◌, ◌⊎◌, inl, inr, Bool, true, false, cond, eqb, List, [], ◌∷◌, Option, None, Some, refl, sym, ◌∙◌, ap, subst, arith}
-use Rattle.std.specs.Prelude.{find, not, nat_eq, slice_get}
-use Rattle.std.specs.Option.{option_and_then, option_map, option_map_or, unwrap_or}
-use Rattle.std.proofs.lemmas.Bool.{eqb-true, eq-eqb, true≢false}
-use Rattle.std.proofs.lemmas.Option.{none-some, same_Some, slice_get-map}
+use Rattle.std.specs.{Prelude.{find, not, nat_eq, slice_get}, Option.{option_and_then, option_map, option_map_or, unwrap_or}}
+use Rattle.std.proofs.lemmas.{Bool.{eqb-true, eq-eqb, true≢false}, Option.{none-some, same_Some, slice_get-map}}
 use Rattle.oc_base.specs.declared.format.Word.TheVariants.{W32}
-use Rattle.oc_linking.specs.declared.terms.Keep.{Keep}
-use Rattle.oc_linking.specs.Keeping.{keeps}
+use Rattle.oc_linking.specs.{declared.terms.Keep.{Keep}, Keeping.{keeps}, Rules.{Field}, Targets.{symbol_target}, Values.{numbered}}
 use Rattle.oc_linking.specs.Parts as parts
-use Rattle.oc_linking.specs.Rules.{Field}
 use Rattle.oc_linking.specs.Targets as file
-use Rattle.oc_linking.specs.Targets.{symbol_target}
-use Rattle.oc_linking.specs.Values.{numbered}
-use Rattle.oc_shows.specs.Built.{IsField, IsFree, IsGiven}
-use Rattle.oc_shows.specs.Computed.{position_of}
-use Rattle.oc_neutral.specs.declared.reloc.Reloc.{Reloc}
-use Rattle.oc_neutral.specs.declared.reloc.Target.{Target}
+use Rattle.oc_shows.specs.{Built.{IsField, IsFree, IsGiven}, Computed.{position_of}, RowFields.{IsTarget}, RowValues.{row_reloc}}
+use Rattle.oc_neutral.specs.{declared.reloc.Reloc.{Reloc}, declared.reloc.Target.{Target}, Dialects.{is_kept, kept_fields}, Faces.{shown_symbols}}
+use Rattle.oc_neutral.specs.{Normal.{place_among}, Objects.{Object}, Rows.{Row}}
 use Rattle.oc_neutral.specs.declared.reloc.Target.TheVariants as target
-use Rattle.oc_neutral.specs.Dialects.{is_kept, kept_fields}
-use Rattle.oc_neutral.specs.Faces.{shown_symbols}
-use Rattle.oc_neutral.specs.Normal.{place_among}
-use Rattle.oc_neutral.specs.Objects.{Object}
-use Rattle.oc_shows.specs.RowFields.{IsTarget}
-use Rattle.oc_neutral.specs.Rows.{Row}
-use Rattle.oc_shows.specs.RowValues.{row_reloc}
 use Rattle.oc_shows.proofs.RowFieldLaws.{rows_are_fields, symbol_is_target}
-use Rattle.oc_omf.specs.declared.structures.Method.{Method}
-use Rattle.oc_omf.specs.Entries.{entries_in}
-use Rattle.oc_omf.specs.Fields.{added_at, field_by, field_of, fields_in, fixups_in, relocates, row_of}
-use Rattle.oc_omf.specs.Fixups.{Fixed}
-use Rattle.oc_omf.specs.Rules.{omf_dialect}
-use Rattle.oc_omf.specs.Sections.{sections_in}
-use Rattle.oc_omf.specs.Structures.{External}
-use Rattle.oc_omf.specs.Symbols.{external_mention, number_of, symbols_in}
-use Rattle.oc_omf.specs.Tables.{indexed, tables_of}
+use Rattle.oc_omf.specs.{declared.structures.Method.{Method}, Entries.{entries_in}}
+use Rattle.oc_omf.specs.{Fields.{added_at, field_by, field_of, fields_in, fixups_in, relocates, row_of}, Fixups.{Fixed}, Rules.{omf_dialect}}
+use Rattle.oc_omf.specs.{Sections.{sections_in}, Structures.{External}, Symbols.{external_mention, number_of, symbols_in}, Tables.{indexed, tables_of}}
 use Rattle.oc_omf.specs.Targets.{Meaning, external_at, meaning_of, section_target, target_of}
 use Rattle.oc_omf_read.specs.Given.{given_at, is_kept_at, reloc_by, reloc_to}
 

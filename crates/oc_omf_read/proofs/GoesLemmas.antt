@@ -1,17 +1,13 @@
 -- Each structure that is read has a byte, and ends in the contents.
 use Rattle.std.proofs.Common.{◌≡◌, ℕ, ◌+◌, ◌*◌, ◌<◌, ◌≤◌, Bool, true, false, List, length, Ok, Err, refl, sym, ◌∙◌, ap, arith}
 use Rattle.std.specs.Prelude.{nat_eq, nat_le, cond}
-use Rattle.std.proofs.lemmas.Bool.{true≢false}
-use Rattle.std.proofs.lemmas.Bool.Decides.{nat_tests}
-use Rattle.oc_omf.specs.Cursor.{Reading, index_read, next, number_read}
-use Rattle.oc_neutral.specs.KindRules.{has}
-use Rattle.oc_omf.specs.declared.structures.Datum.{Datum}
-use Rattle.oc_omf.specs.declared.structures.Datum.TheVariants as datum
-use Rattle.oc_omf.specs.declared.structures.Method.{Method}
-use Rattle.oc_omf.specs.declared.structures.Subrecord.{Subrecord}
-use Rattle.oc_omf.specs.declared.structures.Subrecord.TheVariants as subrecord
-use Rattle.oc_omf.specs.declared.structures.Thread.{Thread}
+use Rattle.std.proofs.lemmas.{Bool.{true≢false}, Bool.Decides.{nat_tests}}
+use Rattle.oc_omf.specs.{Cursor.{Reading, index_read, next, number_read}, declared.structures.Datum.{Datum}, declared.structures.Method.{Method}}
+use Rattle.oc_omf.specs.{declared.structures.Subrecord.{Subrecord}, declared.structures.Thread.{Thread}}
 use Rattle.oc_omf.specs.Structures.{bits, communal_length, communal_width, displacement_read, fixup_read, frame_read, long_size, method_read, subrecord_read, target_read, thread_read}
+use Rattle.oc_neutral.specs.KindRules.{has}
+use Rattle.oc_omf.specs.declared.structures.Datum.TheVariants as datum
+use Rattle.oc_omf.specs.declared.structures.Subrecord.TheVariants as subrecord
 use Rattle.oc_omf.proofs.EachLemmas.{index_goes, next_goes}
 
 -- what is read at a place has a byte

@@ -1,18 +1,12 @@
 -- What is held of mentions, one mention after the other.
 use Rattle.std.proofs.Common.{◌≡◌, ℕ, zero, suc, ◌+◌, ◌<◌, ◌≤◌, Bool, true, false, cond, List, [], ◌∷◌, ◌++◌, length, map, take, set, get_or, Option, None, Some, refl, sym, ◌∙◌, ap, subst, arith, length-append}
-use Rattle.std.specs.Prelude.{◌||◌, not, filter_map, fold, slice_get}
-use Rattle.std.specs.List.{cons_option, list_any}
-use Rattle.std.specs.Option.{option_map}
-use Rattle.std.proofs.lemmas.Bool.{true≢false}
-use Rattle.std.proofs.lemmas.List.{length-map, map-append}
-use Rattle.std.proofs.lemmas.Option.{none-some, same_Some, slice_get-get_or, slice_get-map}
+use Rattle.std.specs.{Prelude.{◌||◌, not, filter_map, fold, slice_get}, List.{cons_option, list_any}, Option.{option_map}}
+use Rattle.std.proofs.lemmas.{Bool.{true≢false}, List.{length-map, map-append}, Option.{none-some, same_Some, slice_get-get_or, slice_get-map}}
 use Rattle.std.proofs.lemmas.List.Elements.{filter_map-append}
 use Rattle.oc_neutral.proofs.FieldLists.{take_here}
 use Rattle.oc_omf.specs.Symbols.{Mention, number_of, same_symbol, with_new}
-use Rattle.oc_omf_read.specs.declared.mentioned.Mentioned.{Mentioned}
-use Rattle.oc_omf_read.specs.declared.mentioned.Mentions.{Mentions}
-use Rattle.oc_omf_read.specs.declared.declarations.DeclarationRef.{DeclarationRef}
-use Rattle.oc_omf_read.specs.Declarations.{Declaration, all_declarations, declaration_of}
+use Rattle.oc_omf_read.specs.{declared.mentioned.Mentioned.{Mentioned}, declared.mentioned.Mentions.{Mentions}}
+use Rattle.oc_omf_read.specs.{declared.declarations.DeclarationRef.{DeclarationRef}, Declarations.{Declaration, all_declarations, declaration_of}}
 use Rattle.oc_omf_read.specs.Mentioned.{AreNumbered, HasDeclarations, ModuleSymbol, blank, external_number, external_said, held, mention_of, mentioned_symbols, number_among, number_held, seen_in, seen_more, seen_of, symbol_of}
 use Rattle.oc_omf_judge.proofs.MentionLemmas.{same_is, same_self}
 use Rattle.oc_omf_read.proofs.MentionLemmas.{AreApart, Unlike, among_push, any_mentioned, externals_keep, number_low, seen_set, seen_with, symbols_apart, symbols_push}

@@ -1,40 +1,24 @@
 -- The fields of fixups are what is given, one for each place.
 use Rattle.std.proofs.Common.{◌≡◌, ℕ, zero, suc, ◌+◌, ◌-◌, ◌<◌, ◌≤◌, Bool, true, false, cond, List, [], ◌∷◌, ◌++◌, get_or, length, take, Option, None, Some, refl, sym, ◌∙◌, ap, subst, arith, length-take}
-use Rattle.std.specs.Prelude.{◌&&◌, ◌||◌, nat_eq, find, flat_map, slice_get}
-use Rattle.std.specs.List.{All, AllByRecursion, Any, IsDistinct, list_any}
-use Rattle.std.specs.List.Sorted.{IsPermutation}
-use Rattle.std.specs.Option.{option_and_then, option_map, option_map_or, unwrap_or}
-use Rattle.std.proofs.lemmas.Bool.{eq-eqb, eqb-true, ne_eqb, true≢false, and_parts}
-use Rattle.std.proofs.lemmas.List.{get_or-take}
-use Rattle.std.proofs.lemmas.List.Folds.{Any-from_list_any}
+use Rattle.std.specs.{Prelude.{◌&&◌, ◌||◌, nat_eq, find, flat_map, slice_get}, List.{All, AllByRecursion, Any, IsDistinct, list_any}}
+use Rattle.std.specs.{List.Sorted.{IsPermutation}, Option.{option_and_then, option_map, option_map_or, unwrap_or}}
+use Rattle.std.proofs.lemmas.{Bool.{eq-eqb, eqb-true, ne_eqb, true≢false, and_parts}, List.{get_or-take}, List.Folds.{Any-from_list_any}}
 use Rattle.std.proofs.lemmas.List.Sorted.{All-permutation, list_any-IsPermutation}
 use Rattle.std.proofs.lemmas.Map.Keys.{IsDistinct-IsPermutation, apart_from_distinct, any_passes_from_place}
 use Rattle.std.proofs.lemmas.Option.{none-some, same_Some, get_or_from_slice_get, slice_get-get_or}
-use Rattle.oc_linking.specs.declared.terms.Keep.{Keep}
-use Rattle.oc_linking.specs.FirstFault.{first_fault, stage_fault}
+use Rattle.oc_linking.specs.{declared.terms.Keep.{Keep}, FirstFault.{first_fault, stage_fault}}
 use Rattle.oc_neutral.specs.declared.reloc.Reloc.{Reloc}
 use Rattle.oc_neutral.proofs.Mapped.{all_from}
-use Rattle.oc_target.proofs.MeetsRows.{found_there}
-use Rattle.oc_target.proofs.KeyPlaces.{either_way}
+use Rattle.oc_target.proofs.{MeetsRows.{found_there}, KeyPlaces.{either_way}}
 use Rattle.oc_shelf.proofs.WritingLaws.MemberLemmas.{member_map, of_map}
 use Rattle.oc_omf_records.specs.Blocks.{copies_of, moved}
-use Rattle.oc_omf.specs.declared.constants.TheConstants.{OFFSET_32}
-use Rattle.oc_omf.specs.Entries.{Entry, entries_in}
-use Rattle.oc_omf.specs.Fields.{fixups_in, relocates}
-use Rattle.oc_omf.specs.Fixups.{Fixed, field_offsets}
-use Rattle.oc_omf.specs.RelocationFaults.{relocation_stages}
-use Rattle.oc_omf.specs.SectionFaults.{section_stage}
-use Rattle.oc_omf.specs.Sections.{blocks_in}
-use Rattle.oc_omf.specs.Structures.{Piece}
+use Rattle.oc_omf.specs.{declared.constants.TheConstants.{OFFSET_32}, Entries.{Entry, entries_in}, Fields.{fixups_in, relocates}, Fixups.{Fixed, field_offsets}}
+use Rattle.oc_omf.specs.{RelocationFaults.{relocation_stages}, SectionFaults.{section_stage}, Sections.{blocks_in}, Structures.{Piece}}
 use Rattle.oc_omf.specs.Targets.{Meaning, meaning_of}
-use Rattle.oc_omf_read.specs.declared.fields.FixupField.{FixupField}
-use Rattle.oc_omf_read.specs.declared.fix.Fix.{Fix}
+use Rattle.oc_omf_read.specs.{declared.fields.FixupField.{FixupField}, declared.fix.Fix.{Fix}, Aims.{fix_by, fix_for}}
+use Rattle.oc_omf_read.specs.{Fields.{copies_in, fields_at, fields_by, fields_for, fields_of, is_among}, Given.{given_at, is_kept_at, reloc_by}}
 use Rattle.oc_omf_read.specs.Aims as aims
-use Rattle.oc_omf_read.specs.Aims.{fix_by, fix_for}
-use Rattle.oc_omf_read.specs.Fields.{copies_in, fields_at, fields_by, fields_for, fields_of, is_among}
-use Rattle.oc_omf_read.specs.Given.{given_at, is_kept_at, reloc_by}
-use Rattle.oc_omf_read.proofs.FixLemmas.{reloc_as, reloc_is}
-use Rattle.oc_omf_read.proofs.PlacedFixups.{IsAt, at_by, data_sound, found_at, kept_aimed, same_at, sound}
+use Rattle.oc_omf_read.proofs.{FixLemmas.{reloc_as, reloc_is}, PlacedFixups.{IsAt, at_by, data_sound, found_at, kept_aimed, same_at, sound}}
 use Rattle.oc_omf_read.proofs.PlacedFixups as placed
 
 -- ... lists

@@ -1,29 +1,19 @@
 -- In a module without a fault of symbols, each symbol of the module alone is defined in it.
 use Rattle.std.proofs.Common.{◌≡◌, ℕ, zero, suc, ◌+◌, ◌<◌, ◌⊎◌, inl, inr, Bool, true, false, cond, List, [], ◌∷◌, ◌++◌, length, map, get_or, Option, None, Some, Result, Ok, Err, refl, sym, ◌∙◌, ap, subst, arith}
-use Rattle.std.specs.Prelude.{◌&&◌, ◌||◌, not, find, slice_get}
-use Rattle.std.specs.List.{AllByRecursion, enumerate_from, list_any}
-use Rattle.std.specs.Option.{is_some, option_map, option_map_or}
-use Rattle.std.proofs.lemmas.Bool.{true≢false}
-use Rattle.std.proofs.lemmas.Option.{none-some, same_Some}
-use Rattle.oc_base.specs.declared.code.Code.TheVariants.{BadSymbol, DuplicateName, SymbolKind}
-use Rattle.oc_base.specs.declared.fault.Fault.{Fault}
-use Rattle.oc_linking.specs.FirstFault.{Condition, Stage, fault_of, first_broken, first_fault, stage_fault}
-use Rattle.oc_linking.specs.Numbers.{or_else}
+use Rattle.std.specs.{Prelude.{◌&&◌, ◌||◌, not, find, slice_get}, List.{AllByRecursion, enumerate_from, list_any}, Option.{is_some, option_map, option_map_or}}
+use Rattle.std.proofs.lemmas.{Bool.{true≢false}, Option.{none-some, same_Some}}
+use Rattle.oc_base.specs.{declared.code.Code.TheVariants.{BadSymbol, DuplicateName, SymbolKind}, declared.fault.Fault.{Fault}}
+use Rattle.oc_linking.specs.{FirstFault.{Condition, Stage, fault_of, first_broken, first_fault, stage_fault}, Numbers.{or_else}}
 use Rattle.oc_shelf.proofs.ReadingLaws.StageLemmas.{all_hold, clean_at, clean_both}
-use Rattle.oc_omf.specs.declared.cut.Cut.{Cut}
-use Rattle.oc_omf.specs.Cursor.{Read}
-use Rattle.oc_omf.specs.Structures.{External, Public}
-use Rattle.oc_omf.specs.Entries.{Entry, all_read}
+use Rattle.oc_omf.specs.{declared.cut.Cut.{Cut}, Cursor.{Read}, Structures.{External, Public}, Entries.{Entry, all_read}}
 use Rattle.oc_omf.specs.Symbols.{Mention, external_mention, public_mention, public_of, same_symbol}
-use Rattle.oc_omf.specs.SymbolFaults as faults
 use Rattle.oc_omf.specs.SymbolFaults.{base_conditions, communal_conditions, external_conditions, externals_before, is_empty, is_other_length, is_undefined, symbol_fault, public_conditions, symbol_stage, symbol_stages, symbol_table, read_conditions}
 use Rattle.oc_omf.specs.Tables.{tables_of}
+use Rattle.oc_omf.specs.SymbolFaults as faults
 use Rattle.oc_omf_read.specs.Declarations.{Declaration, of_external, of_public, declarations_by, declarations_in}
 use Rattle.oc_omf_read.specs.Mentioned.{mention_of, mentioned_symbols, place_by, place_in, place_said}
-use Rattle.oc_omf_read.proofs.BindingLemmas.{places_are}
-use Rattle.oc_omf_read.proofs.ContentLemmas.{all_append, all_flat}
+use Rattle.oc_omf_read.proofs.{BindingLemmas.{places_are}, ContentLemmas.{all_append, all_flat}, MentionLemmas.{any_mentioned}}
 use Rattle.oc_omf_judge.proofs.MentionLemmas.{same_is, same_self}
-use Rattle.oc_omf_read.proofs.MentionLemmas.{any_mentioned}
 use Rattle.oc_omf.proofs.EntryLemmas.{numbered_at}
 use Rattle.oc_neutral.proofs.Positions.{each_at}
 

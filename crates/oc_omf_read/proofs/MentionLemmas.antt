@@ -1,17 +1,13 @@
 -- Symbols by their mentions.
 use Rattle.std.proofs.Common.{◌≡◌, ℕ, suc, ◌+◌, ◌<◌, Bool, true, false, cond, List, [], ◌∷◌, ◌++◌, length, map, set, Option, None, Some, refl, sym, ◌∙◌, ap, arith}
-use Rattle.std.specs.Prelude.{◌||◌, not, filter_map, fold}
-use Rattle.std.specs.List.{cons_option, list_any}
-use Rattle.std.proofs.lemmas.Bool.{true≢false, or_parts}
-use Rattle.std.proofs.lemmas.List.{map-append}
-use Rattle.std.proofs.lemmas.List.Folds.{list_any-append}
-use Rattle.std.proofs.lemmas.Grind.{fold-append}
+use Rattle.std.specs.{Prelude.{◌||◌, not, filter_map, fold}, List.{cons_option, list_any}}
+use Rattle.std.proofs.lemmas.{Bool.{true≢false, or_parts}, List.{map-append}, List.Folds.{list_any-append}, Grind.{fold-append}}
 use Rattle.std.proofs.Math.Bool.{or-false}
 use Rattle.oc_linking.specs.Numbers.{or_else}
 use Rattle.oc_omf.specs.Symbols.{Mention, number_of, same_symbol, with_new}
 use Rattle.oc_omf_read.specs.Declarations.{Declaration}
-use Rattle.oc_omf_judge.proofs.MentionLemmas.{same_is, same_self}
 use Rattle.oc_omf_read.specs.Mentioned.{ModuleSymbol, blank, external_number, external_said, length_by, length_in, length_said, mention_of, mentioned_symbols, number_among, place_by, place_in, place_said, seen_in, seen_more}
+use Rattle.oc_omf_judge.proofs.MentionLemmas.{same_is, same_self}
 use Rattle.oc_shows.proofs.BegunLaws.{or_true}
 use Rattle.oc_shelf.proofs.ReadingLaws.StageLemmas.{or_else-none, or_else-assoc}
 

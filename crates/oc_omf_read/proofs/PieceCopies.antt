@@ -1,27 +1,16 @@
 -- Copies of a fixup lie in its data, and apart.
 use Rattle.std.proofs.Common.{◌≡◌, ℕ, zero, suc, ◌+◌, ◌-◌, ◌*◌, ◌<◌, ◌≤◌, Bool, true, false, cond, List, [], ◌∷◌, drop, get_or, length, None, Some, Result, Ok, Err, refl, sym, subst, arith}
-use Rattle.std.specs.Prelude.{◌&&◌, nat_le}
-use Rattle.std.specs.List.{All, AllByRecursion}
-use Rattle.std.specs.Option.{option_map}
-use Rattle.std.proofs.lemmas.Bool.Decides.{nat_tests}
-use Rattle.std.proofs.lemmas.List.Elements.{All-weaker}
-use Rattle.std.proofs.lemmas.Option.{none-some, same_Some}
-use Rattle.oc_omf_records.specs.declared.faults.BlockFault.{BlockFault}
-use Rattle.oc_omf_records.specs.declared.records.Entry.{Entry as Record}
-use Rattle.oc_omf_records.specs.Blocks.{Blocks, content, copies_of, denotation, in_each, none, size_of, found}
-use Rattle.oc_omf_records.specs.BlockReading.{blocks_of}
+use Rattle.std.specs.{Prelude.{◌&&◌, nat_le}, List.{All, AllByRecursion}, Option.{option_map}}
+use Rattle.std.proofs.lemmas.{Bool.Decides.{nat_tests}, List.Elements.{All-weaker}, Option.{none-some, same_Some}}
+use Rattle.oc_omf_records.specs.{declared.faults.BlockFault.{BlockFault}, declared.records.Entry.{Entry as Record}}
+use Rattle.oc_omf_records.specs.{Blocks.{Blocks, content, copies_of, denotation, in_each, none, size_of, found}, BlockReading.{blocks_of}}
 use Rattle.oc_omf_records.specs.Copies.{AreApart, IsCopy}
 use Rattle.oc_omf_records.proofs.CopyLaws.{copies_are_copies_lem, length-denotation}
-use Rattle.oc_omf.specs.Cursor.{Reading, index_read, next, number_read}
-use Rattle.oc_omf.specs.Entries.{all_read, is_wide}
-use Rattle.oc_omf.specs.Sections.{blocks_in}
+use Rattle.oc_omf.specs.{Cursor.{Reading, index_read, next, number_read}, Entries.{all_read, is_wide}, Sections.{blocks_in}}
 use Rattle.oc_omf.specs.Structures.{Piece, blocks_by, long_size, piece_read}
-use Rattle.oc_omf_read.specs.declared.class.EntryClass.{EntryClass}
+use Rattle.oc_omf_read.specs.{declared.class.EntryClass.{EntryClass}, Classes.{class_of}, Defined.{read_in, said}}
 use Rattle.oc_omf_read.specs.declared.class.EntryClass.TheVariants as class
-use Rattle.oc_omf_read.specs.Classes.{class_of}
-use Rattle.oc_omf_read.specs.Defined.{read_in, said}
-use Rattle.oc_omf_read.proofs.ClassLemmas.{has_no_data}
-use Rattle.oc_omf_read.proofs.PieceLemmas.{iterated_pieces, no_pieces, plain_pieces}
+use Rattle.oc_omf_read.proofs.{ClassLemmas.{has_no_data}, PieceLemmas.{iterated_pieces, no_pieces, plain_pieces}}
 
 -- places of four bytes that lie in so many, and apart
 pub record AreWell (size : ℕ) (places : List ℕ) : Type 0 where

@@ -1,21 +1,13 @@
 -- Data of entries, and what they cover.
 use Rattle.std.proofs.Common.{◌≡◌, ℕ, ◌≤◌, Bool, true, false, List, [], length, drop, Some, Ok, Err, sym, ◌∙◌, ap, arith}
-use Rattle.std.proofs.lemmas.Bool.{true≢false}
-use Rattle.std.proofs.lemmas.Bool.Decides.{nat_tests}
+use Rattle.std.proofs.lemmas.{Bool.{true≢false}, Bool.Decides.{nat_tests}}
 use Rattle.oc_omf_records.specs.declared.records.Entry.{Entry as Record}
-use Rattle.oc_omf.specs.declared.cut.Cut.{Cut}
-use Rattle.oc_omf.specs.Cursor.{Reading, index_read, next, number_read}
-use Rattle.oc_omf.specs.Structures.{blocks_by, long_size, piece_read}
-use Rattle.oc_omf.specs.Entries.{Entry, all_read, is_wide}
-use Rattle.oc_omf.specs.Sections.{blocks_in}
-use Rattle.oc_omf_read.specs.declared.class.EntryClass.{EntryClass}
-use Rattle.oc_omf_read.specs.declared.class.EntryClass.TheVariants as class
-use Rattle.oc_omf_read.specs.declared.pieces.Piece.{Piece}
-use Rattle.oc_omf_read.specs.Classes.{class_of}
-use Rattle.oc_omf_read.specs.Defined.{read_in, said}
+use Rattle.oc_omf.specs.{declared.cut.Cut.{Cut}, Cursor.{Reading, index_read, next, number_read}, Structures.{blocks_by, long_size, piece_read}}
+use Rattle.oc_omf.specs.{Entries.{Entry, all_read, is_wide}, Sections.{blocks_in}}
+use Rattle.oc_omf_read.specs.{declared.class.EntryClass.{EntryClass}, declared.pieces.Piece.{Piece}, Classes.{class_of}, Defined.{read_in, said}}
 use Rattle.oc_omf_read.specs.Pieces.{ArePieces, row_in}
-use Rattle.oc_omf_read.proofs.ClassLemmas.{has_no_data, read_whole}
-use Rattle.oc_omf_read.proofs.DefinedLemmas.{said_by_class}
+use Rattle.oc_omf_read.specs.declared.class.EntryClass.TheVariants as class
+use Rattle.oc_omf_read.proofs.{ClassLemmas.{has_no_data, read_whole}, DefinedLemmas.{said_by_class}}
 
 -- ... one structure
 

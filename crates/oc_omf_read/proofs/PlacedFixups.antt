@@ -1,45 +1,25 @@
 -- Fixups with a field at a place that is kept: there is one at most, and none meets another.
 use Rattle.std.proofs.Common.{◌≡◌, ℕ, zero, suc, ◌+◌, ◌-◌, ◌<◌, ◌≤◌, inl, inr, Bool, true, false, cond, List, [], ◌∷◌, ◌++◌, get_or, length, take, Option, None, Some, Result, Ok, Err, refl, sym, ◌∙◌, ap, subst, arith}
-use Rattle.std.specs.Prelude.{◌&&◌, ◌||◌, nat_eq, nat_lt, filter, find, slice_get}
-use Rattle.std.specs.List.{AllByRecursion, list_any}
+use Rattle.std.specs.{Prelude.{◌&&◌, ◌||◌, nat_eq, nat_lt, filter, find, slice_get}, List.{AllByRecursion, list_any}}
 use Rattle.std.specs.Option.{option_map_or, unwrap_or, option_and_then}
-use Rattle.std.proofs.lemmas.Bool.{cases_eq, cases_lt, eq-eqb, eqb-true, true≢false}
-use Rattle.std.proofs.lemmas.Bool.Decides.{nat_tests}
-use Rattle.std.proofs.lemmas.Option.{none-some, same_Some}
-use Rattle.oc_linking.specs.declared.terms.Keep.{Keep}
-use Rattle.oc_linking.specs.Keeping.{keeps}
-use Rattle.oc_linking.specs.FirstFault.{first_fault, stage_fault}
+use Rattle.std.proofs.lemmas.{Bool.{cases_eq, cases_lt, eq-eqb, eqb-true, true≢false}, Bool.Decides.{nat_tests}, Option.{none-some, same_Some}}
+use Rattle.oc_linking.specs.{declared.terms.Keep.{Keep}, Keeping.{keeps}, FirstFault.{first_fault, stage_fault}}
 use Rattle.oc_linking.specs.Parts as parts
-use Rattle.oc_neutral.proofs.Positions.{each_at}
-use Rattle.oc_neutral.proofs.Mapped.{all_from}
+use Rattle.oc_neutral.proofs.{Positions.{each_at}, Mapped.{all_from}}
 use Rattle.oc_shelf.proofs.WritingLaws.MemberLemmas.{find_first, member_flat_map}
-use Rattle.oc_omf_records.specs.Blocks.{copies_of, moved}
-use Rattle.oc_omf_records.specs.NextEntry.{entry_of}
-use Rattle.oc_omf.specs.declared.constants.TheConstants.{OFFSET_32}
-use Rattle.oc_omf.specs.declared.cut.Cut.{Cut}
-use Rattle.oc_omf.specs.declared.structures.Segment.{Segment}
-use Rattle.oc_omf.specs.declared.structures.Subrecord.{Subrecord}
-use Rattle.oc_omf.specs.declared.structures.Subrecord.TheVariants as subrecord
-use Rattle.oc_omf.specs.Entries.{Entry, all_read, entries_in}
-use Rattle.oc_omf.specs.Fields.{fixups_in, relocates}
+use Rattle.oc_omf_records.specs.{Blocks.{copies_of, moved}, NextEntry.{entry_of}}
+use Rattle.oc_omf.specs.{declared.constants.TheConstants.{OFFSET_32}, declared.cut.Cut.{Cut}, declared.structures.Segment.{Segment}}
+use Rattle.oc_omf.specs.{declared.structures.Subrecord.{Subrecord}, Entries.{Entry, all_read, entries_in}, Fields.{fixups_in, relocates}}
 use Rattle.oc_omf.specs.Fixups.{Fixed, PlacedSubrecord, are_near, field_offsets, fixed_from, fixed_in, is_of_segment, last_of, meet, subrecords_upto, with_fixed}
+use Rattle.oc_omf.specs.{RelocationFaults.{is_judged, relocation_stages}, SectionFaults.{section_stage}}
+use Rattle.oc_omf.specs.{Sections.{blocks_in, is_covered, piece_size, segment_kind}, Structures.{Piece}, Tables.{indexed, tables_of}, Targets.{meaning_of}}
+use Rattle.oc_omf.specs.declared.structures.Subrecord.TheVariants as subrecord
 use Rattle.oc_omf.specs.RelocationFaults as faults
-use Rattle.oc_omf.specs.RelocationFaults.{is_judged, relocation_stages}
-use Rattle.oc_omf.specs.SectionFaults.{section_stage}
-use Rattle.oc_omf.specs.Sections.{blocks_in, is_covered, piece_size, segment_kind}
-use Rattle.oc_omf.specs.Structures.{Piece}
 use Rattle.oc_omf.specs.Tables as all
-use Rattle.oc_omf.specs.Tables.{indexed, tables_of}
-use Rattle.oc_omf.specs.Targets.{meaning_of}
 use Rattle.oc_omf_read.specs.Aims as aims
 use Rattle.oc_omf_read.specs.Given.{is_kept_at}
-use Rattle.oc_omf_read.proofs.AimLemmas.{some_indexed}
-use Rattle.oc_omf_read.proofs.BuildLemmas.{section_at}
-use Rattle.oc_omf_read.proofs.CleanFixups.{IsGood, each_placed, good_fixup}
-use Rattle.oc_omf_read.proofs.ContentLemmas.{all_flat}
-use Rattle.oc_omf_read.proofs.PieceCopies.{HaveCopies, pieces_copied}
-use Rattle.oc_omf_read.proofs.SoundPieces.{IsPlacedPiece, pieces_placed}
-use Rattle.oc_omf_read.proofs.SumLemmas.{said_here}
+use Rattle.oc_omf_read.proofs.{AimLemmas.{some_indexed}, BuildLemmas.{section_at}, CleanFixups.{IsGood, each_placed, good_fixup}, ContentLemmas.{all_flat}}
+use Rattle.oc_omf_read.proofs.{PieceCopies.{HaveCopies, pieces_copied}, SoundPieces.{IsPlacedPiece, pieces_placed}, SumLemmas.{said_here}}
 
 any_filter : {X : Type 0} (P Q : X → Bool) (xs : List X) (k : ℕ) (x : X) → slice_get xs k ≡ Some x → P x ≡ true → Q x ≡ true → list_any P (filter Q xs) ≡ true
 any_filter P Q [] k x here p q = absurd (none-some x here)

@@ -1,22 +1,14 @@
 -- What is built before the relocations can be read.
 use Rattle.std.proofs.Common.{◌≡◌, ℕ, Bool, true, false, cond, List, [], ◌∷◌, map, refl, sym}
-use Rattle.std.specs.Prelude.{◌&&◌, not, bytes_eq, codes}
-use Rattle.std.specs.List.{AllByRecursion, enumerate_from}
+use Rattle.std.specs.{Prelude.{◌&&◌, not, bytes_eq, codes}, List.{AllByRecursion, enumerate_from}}
 use Rattle.std.proofs.lemmas.Bool.{true≢false}
-use Rattle.oc_base.specs.declared.format.Format.TheVariants.{Omf}
-use Rattle.oc_base.specs.Strings.{ends}
+use Rattle.oc_base.specs.{declared.format.Format.TheVariants.{Omf}, Strings.{ends}}
 use Rattle.oc_linking.specs.declared.terms.Kind.TheVariants.{Code, ReadOnly, Data, Zero, Debug}
-use Rattle.oc_neutral.specs.declared.section.Section.{Section}
-use Rattle.oc_neutral.specs.GivenTags.{can_have}
-use Rattle.oc_neutral.specs.KindRules.{begins}
-use Rattle.oc_neutral.specs.Omf.Kinds.{omf_kind, omf_tag}
-use Rattle.oc_shows.specs.Readable.{IsReadable}
-use Rattle.oc_shows.specs.Started.{stored_section}
-use Rattle.oc_omf.specs.declared.structures.Segment.{Segment}
-use Rattle.oc_omf.specs.Entries.{entries_in}
-use Rattle.oc_omf.specs.Sections.{is_covered, section_of, sections_in}
-use Rattle.oc_omf.specs.Tables as all
+use Rattle.oc_neutral.specs.{declared.section.Section.{Section}, GivenTags.{can_have}, KindRules.{begins}, Omf.Kinds.{omf_kind, omf_tag}}
+use Rattle.oc_shows.specs.{Readable.{IsReadable}, Started.{stored_section}}
+use Rattle.oc_omf.specs.{declared.structures.Segment.{Segment}, Entries.{entries_in}, Sections.{is_covered, section_of, sections_in}}
 use Rattle.oc_omf.specs.Tables.{name_at, tables_of}
+use Rattle.oc_omf.specs.Tables as all
 use Rattle.oc_omf_read.specs.Built.{started}
 
 -- each kind of a class can have each name

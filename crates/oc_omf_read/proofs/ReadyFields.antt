@@ -1,43 +1,19 @@
 -- Fields whose relocations are ready to be added.
 use Rattle.std.proofs.Common.{◌≡◌, ℕ, ◌+◌, ◌<◌, ◌≤◌, false, cond, List, [], get_or, length, take, Option, None, Some, sym, ◌∙◌, ap, subst, arith}
-use Rattle.std.specs.Prelude.{slice_get, Vec}
-use Rattle.std.specs.Global.{Global}
-use Rattle.std.specs.List.Sorted.{IsPermutation}
-use Rattle.std.specs.Option.{option_map_or}
+use Rattle.std.specs.{Prelude.{slice_get, Vec}, Global.{Global}, List.Sorted.{IsPermutation}, Option.{option_map_or}}
 use Rattle.std.proofs.lemmas.Option.{slice_get_within}
-use Rattle.oc_base.specs.declared.format.Word.TheVariants.{W32}
-use Rattle.oc_base.specs.Numbers.{number_at}
+use Rattle.oc_base.specs.{declared.format.Word.TheVariants.{W32}, Numbers.{number_at}}
 use Rattle.oc_linking.specs.FirstFault.{first_fault}
-use Rattle.oc_neutral.specs.declared.reloc.Reloc.{Reloc}
-use Rattle.oc_neutral.specs.Building.{Draft, is_zero}
-use Rattle.oc_shows.specs.Built.{HasAdded}
-use Rattle.oc_neutral.specs.Omf.Relocs.{fixup_row}
-use Rattle.oc_shows.specs.RowValues.{row_reloc}
-use Rattle.oc_omf.specs.declared.structures.Segment.{Segment}
-use Rattle.oc_omf.specs.Entries.{Entry, entries_in}
-use Rattle.oc_omf.specs.Fields.{fixups_in}
-use Rattle.oc_omf.specs.HeaderFaults.{IsModule}
-use Rattle.oc_omf.specs.Sections.{contents_of, segment_kind, segment_size}
-use Rattle.oc_omf.specs.SymbolFaults.{symbol_stages}
-use Rattle.oc_omf.specs.Symbols.{symbols_in}
-use Rattle.oc_omf.specs.Tables.{tables_of}
+use Rattle.oc_neutral.specs.{declared.reloc.Reloc.{Reloc}, Building.{Draft, is_zero}, Omf.Relocs.{fixup_row}}
+use Rattle.oc_shows.specs.{Built.{HasAdded}, RowValues.{row_reloc}}
+use Rattle.oc_omf.specs.{declared.structures.Segment.{Segment}, Entries.{Entry, entries_in}, Fields.{fixups_in}, HeaderFaults.{IsModule}}
+use Rattle.oc_omf.specs.{Sections.{contents_of, segment_kind, segment_size}, SymbolFaults.{symbol_stages}, Symbols.{symbols_in}, Tables.{tables_of}}
 use Rattle.oc_omf.specs.Targets.{meaning_of}
-use Rattle.oc_omf_read.specs.declared.fields.FixupField.{FixupField}
-use Rattle.oc_omf_read.specs.declared.fixes.FixupContext.{FixupContext}
-use Rattle.oc_omf_read.specs.Adding.{IsReady}
-use Rattle.oc_omf_read.specs.Aims.{meaning_seen}
-use Rattle.oc_omf_read.specs.Built.{started}
-use Rattle.oc_omf_read.specs.Contents.{AreStored, items_at}
-use Rattle.oc_omf_read.specs.Fields.{fields_of, given_with}
-use Rattle.oc_omf_read.specs.Fixing.{added_by, framed_as}
-use Rattle.oc_omf_read.specs.Given.{given_at}
+use Rattle.oc_omf_read.specs.{declared.fields.FixupField.{FixupField}, declared.fixes.FixupContext.{FixupContext}, Adding.{IsReady}, Aims.{meaning_seen}}
+use Rattle.oc_omf_read.specs.{Built.{started}, Contents.{AreStored, items_at}, Fields.{fields_of, given_with}, Fixing.{added_by, framed_as}, Given.{given_at}}
 use Rattle.oc_omf_read.specs.Declarations.{declarations_in}
-use Rattle.oc_omf_read.proofs.ContentLemmas.{indexed_is}
-use Rattle.oc_omf_read.proofs.CountLemmas.{few_declarations}
-use Rattle.oc_omf_read.proofs.HearLemmas.{few_symbols}
-use Rattle.oc_omf_read.proofs.SymbolLemmas.{as_many as as_many_symbols}
-use Rattle.oc_omf_read.proofs.FixLemmas.{field_number, reloc_as}
-use Rattle.oc_omf_read.proofs.AddedFields.{IsInside, all_done, field_inside, field_taken}
+use Rattle.oc_omf_read.proofs.{ContentLemmas.{indexed_is}, CountLemmas.{few_declarations}, HearLemmas.{few_symbols}, SymbolLemmas.{as_many as as_many_symbols}}
+use Rattle.oc_omf_read.proofs.{FixLemmas.{field_number, reloc_as}, AddedFields.{IsInside, all_done, field_inside, field_taken}}
 use Rattle.oc_shows.proofs.AddedLaws.{IsTaken}
 
 -- ... contents

@@ -1,25 +1,17 @@
 -- What entries without a fault of the stage of sections define.
 use Rattle.std.proofs.Common.{◌≡◌, ℕ, ◌+◌, ◌≤◌, true, false, List, [], ◌∷◌, ◌++◌, length, None, Some, Ok, Err, sym, ◌∙◌, arith}
-use Rattle.std.specs.Prelude.{flat_map, nat_eq, slice_get, Result}
-use Rattle.std.specs.List.{AllByRecursion, sum_by}
-use Rattle.std.proofs.lemmas.Bool.Decides.{nat_tests}
-use Rattle.std.proofs.lemmas.Option.{none-some, slice_get_within}
-use Rattle.std.proofs.lemmas.Bool.{not-false}
-use Rattle.oc_base.specs.declared.fault.Fault.{Fault}
+use Rattle.std.specs.{Prelude.{flat_map, nat_eq, slice_get, Result}, List.{AllByRecursion, sum_by}}
+use Rattle.std.proofs.lemmas.{Bool.Decides.{nat_tests}, Option.{none-some, slice_get_within}, Bool.{not-false}}
+use Rattle.oc_base.specs.{declared.fault.Fault.{Fault}, declared.code.Code.TheVariants.{BadTable}}
 use Rattle.oc_linking.specs.FirstFault.{Condition, fault_of, first_broken, stage_fault}
 use Rattle.oc_shelf.proofs.ReadingLaws.StageLemmas.{all_hold, clean_at, clean_both}
-use Rattle.oc_omf.specs.declared.cut.Cut.{Cut}
-use Rattle.oc_omf.specs.declared.structures.Segment.{Segment}
-use Rattle.oc_omf.specs.Cursor.{Read}
-use Rattle.oc_omf.specs.Structures.{Piece}
-use Rattle.oc_omf.specs.Entries.{Entry, all_read, entries_in}
-use Rattle.oc_omf.specs.Sections.{align_code, piece_size, segment_size, size_at}
+use Rattle.oc_omf.specs.{declared.cut.Cut.{Cut}, declared.structures.Segment.{Segment}, Cursor.{Read}, Structures.{Piece}}
+use Rattle.oc_omf.specs.{Entries.{Entry, all_read, entries_in}, Sections.{align_code, piece_size, segment_size, size_at}}
 use Rattle.oc_omf.specs.SectionFaults.{conditions_on, end_conditions, form_conditions, group_conditions, name_conditions, own_fault, piece_conditions, section_conditions, section_stage, segment_conditions, size_conditions, whole_conditions}
-use Rattle.oc_omf.specs.Tables as all
 use Rattle.oc_omf.specs.Tables.{is_indexed}
+use Rattle.oc_omf.specs.Tables as all
 use Rattle.oc_omf.proofs.EntryLemmas.{conditions_at}
 use Rattle.oc_omf_read.proofs.DefinedLemmas.{tables_upto}
-use Rattle.oc_base.specs.declared.code.Code.TheVariants.{BadTable}
 use Rattle.oc_target.proofs.MeetsConditions.{not_below}
 
 -- structures without a fault are read, and each meets its conditions

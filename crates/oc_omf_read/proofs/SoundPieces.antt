@@ -1,20 +1,12 @@
 -- Data of a module without a fault of sections lie in their segments.
 use Rattle.std.proofs.Common.{◌≡◌, ℕ, ◌+◌, ◌-◌, ◌≤◌, List, length, Some, ◌∙◌, ap, arith, length-append, true, None, ◌∷◌, []}
-use Rattle.std.specs.Prelude.{◌&&◌, nat_le, slice_get}
-use Rattle.std.specs.List.{AllByRecursion}
-use Rattle.std.proofs.lemmas.Bool.{eq-eqb}
-use Rattle.std.proofs.lemmas.Bool.Decides.{nat_tests}
+use Rattle.std.specs.{Prelude.{◌&&◌, nat_le, slice_get}, List.{AllByRecursion}}
+use Rattle.std.proofs.lemmas.{Bool.{eq-eqb}, Bool.Decides.{nat_tests}}
 use Rattle.oc_linking.specs.FirstFault.{first_broken, stage_fault}
-use Rattle.oc_omf.specs.declared.structures.Segment.{Segment}
-use Rattle.oc_omf.specs.Entries.{Entry, all_read, entries_in}
-use Rattle.oc_omf.specs.SectionFaults.{piece_conditions, section_stage}
-use Rattle.oc_omf.specs.Sections.{piece_size, segment_size}
-use Rattle.oc_omf.specs.Structures.{Piece}
+use Rattle.oc_omf.specs.{declared.structures.Segment.{Segment}, Entries.{Entry, all_read, entries_in}, SectionFaults.{piece_conditions, section_stage}}
+use Rattle.oc_omf.specs.{Sections.{piece_size, segment_size}, Structures.{Piece}, Tables.{is_indexed, tables_of}}
 use Rattle.oc_omf.specs.Tables as all
-use Rattle.oc_omf.specs.Tables.{is_indexed, tables_of}
-use Rattle.oc_omf_read.proofs.BuildLemmas.{segment_there}
-use Rattle.oc_omf_read.proofs.ContentLemmas.{Fits, good_segment, piece_fits, segments_front}
-use Rattle.oc_omf_read.proofs.DefinedLemmas.{tables_upto}
+use Rattle.oc_omf_read.proofs.{BuildLemmas.{segment_there}, ContentLemmas.{Fits, good_segment, piece_fits, segments_front}, DefinedLemmas.{tables_upto}}
 use Rattle.oc_omf_read.proofs.SoundEntries.{entry_sound, piece_sound}
 
 -- data that lie in a segment which is there

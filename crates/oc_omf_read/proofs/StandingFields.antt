@@ -1,31 +1,16 @@
 -- What is given are the fields of the module, of which no two meet and none is a difference.
 use Rattle.std.proofs.Common.{◌≡◌, ℕ, ◌+◌, ◌≤◌, List, None, Some, refl, sym, ◌∙◌, ap, arith}
-use Rattle.oc_linking.specs.declared.terms.Hint.TheVariants.{Call}
-use Rattle.oc_linking.specs.declared.terms.Keep.{Keep}
+use Rattle.oc_linking.specs.{declared.terms.Hint.TheVariants.{Call}, declared.terms.Keep.{Keep}, declared.terms.Width.TheVariants.{Four}}
+use Rattle.oc_linking.specs.{FirstFault.{first_fault, stage_fault}, Fits.{bytes_of}, Rules.{Field}}
 use Rattle.oc_linking.specs.declared.terms.Less.TheVariants as less
-use Rattle.oc_linking.specs.declared.terms.Width.TheVariants.{Four}
-use Rattle.oc_linking.specs.FirstFault.{first_fault, stage_fault}
-use Rattle.oc_linking.specs.Fits.{bytes_of}
-use Rattle.oc_linking.specs.Rules.{Field}
-use Rattle.oc_neutral.specs.declared.reloc.Reloc.{Reloc}
+use Rattle.oc_neutral.specs.{declared.reloc.Reloc.{Reloc}, Dialects.{kept_fields}, Faces.{shown_symbols}, Objects.{Object}, Omf.Relocs.{fixup_row}}
 use Rattle.oc_shows.specs.Built.{AreApart, AreOfFile, DifferencesFit, IsField}
-use Rattle.oc_neutral.specs.Dialects.{kept_fields}
-use Rattle.oc_neutral.specs.Faces.{shown_symbols}
-use Rattle.oc_neutral.specs.Objects.{Object}
-use Rattle.oc_neutral.specs.Omf.Relocs.{fixup_row}
 use Rattle.oc_neutral.specs.Rows as rows
-use Rattle.oc_omf.specs.Entries.{entries_in}
-use Rattle.oc_omf.specs.RelocationFaults.{relocation_stages}
-use Rattle.oc_omf.specs.Rules.{omf_dialect}
-use Rattle.oc_omf.specs.SectionFaults.{section_stage}
+use Rattle.oc_omf.specs.{Entries.{entries_in}, RelocationFaults.{relocation_stages}, Rules.{omf_dialect}, SectionFaults.{section_stage}}
 use Rattle.oc_omf.specs.Targets.{Meaning, meaning_of}
-use Rattle.oc_omf_read.specs.declared.fix.FixupFrame.{FixupFrame}
+use Rattle.oc_omf_read.specs.{declared.fix.FixupFrame.{FixupFrame}, Fixing.{framed_as}, Given.{given_at}}
 use Rattle.oc_omf_read.specs.declared.fix.FixupFrame.TheVariants as framed
-use Rattle.oc_omf_read.specs.Fixing.{framed_as}
-use Rattle.oc_omf_read.specs.Given.{given_at}
-use Rattle.oc_omf_read.proofs.GivenFields.{free_or_given}
-use Rattle.oc_omf_read.proofs.ListedFields.{IsStanding, given_standing}
-use Rattle.oc_omf_read.proofs.PlacedFixups.{apart_at}
+use Rattle.oc_omf_read.proofs.{GivenFields.{free_or_given}, ListedFields.{IsStanding, given_standing}, PlacedFixups.{apart_at}}
 use Rattle.oc_shows.proofs.GivenLaws as laws
 
 -- no section is taken

@@ -1,45 +1,24 @@
 -- What is built before the relocations is what the module starts with.
 use Rattle.std.proofs.Common.{◌≡◌, ℕ, zero, suc, ◌+◌, Bool, true, false, cond, List, [], ◌∷◌, ◌++◌, length, map, take, drop, replicate, Option, None, Some, refl, sym, ◌∙◌, ap, subst, arith}
-use Rattle.std.specs.Prelude.{◌&&◌, ◌||◌, not, bytes_eq, codes, fold, nat_lt, slice_get}
-use Rattle.std.specs.List.{enumerate_from, list_any}
-use Rattle.std.specs.Option.{option_map, option_map_or}
-use Rattle.std.proofs.lemmas.Bool.{true≢false}
-use Rattle.std.proofs.lemmas.Bool.Decides.{nat_tests}
-use Rattle.std.proofs.lemmas.List.{take-append-drop}
-use Rattle.std.proofs.lemmas.Option.{none-some, same_Some, slice_get-map}
+use Rattle.std.specs.{Prelude.{◌&&◌, ◌||◌, not, bytes_eq, codes, fold, nat_lt, slice_get}, List.{enumerate_from, list_any}, Option.{option_map, option_map_or}}
+use Rattle.std.proofs.lemmas.{Bool.{true≢false}, Bool.Decides.{nat_tests}, List.{take-append-drop}, Option.{none-some, same_Some, slice_get-map}}
 use Rattle.std.proofs.Math.Seq.{take-length}
-use Rattle.oc_base.specs.declared.format.Format.TheVariants.{Omf}
-use Rattle.oc_base.specs.Strings.{ends}
-use Rattle.oc_linking.specs.declared.terms.Binding.TheVariants.{Undefined, Common, Weak}
-use Rattle.oc_linking.specs.declared.terms.Fallback.{Fallback}
-use Rattle.oc_linking.specs.declared.terms.Fallback.TheVariants as fallback
-use Rattle.oc_linking.specs.declared.terms.Keep.{Keep}
+use Rattle.oc_base.specs.{declared.format.Format.TheVariants.{Omf}, Strings.{ends}}
+use Rattle.oc_linking.specs.{declared.terms.Binding.TheVariants.{Undefined, Common, Weak}, declared.terms.Fallback.{Fallback}, declared.terms.Keep.{Keep}}
 use Rattle.oc_linking.specs.declared.terms.Kind.TheVariants.{Code, ReadOnly, Data, Zero, Debug}
+use Rattle.oc_linking.specs.declared.terms.Fallback.TheVariants as fallback
 use Rattle.oc_linking.specs.Parts as parts
-use Rattle.oc_neutral.specs.Building.{is_zero}
-use Rattle.oc_shows.specs.Built.{IsStarted}
-use Rattle.oc_shows.specs.Computed.{computed_symbol, keys_after, keys_in}
-use Rattle.oc_neutral.specs.Invariants.{IsDraft}
-use Rattle.oc_neutral.specs.KindRules.{begins}
-use Rattle.oc_neutral.specs.Omf.Kinds.{omf_kind}
-use Rattle.oc_neutral.specs.Powers.{natural_align}
-use Rattle.oc_shows.specs.Shows.{AreNumbered}
+use Rattle.oc_neutral.specs.{Building.{is_zero}, Invariants.{IsDraft}, KindRules.{begins}, Omf.Kinds.{omf_kind}, Powers.{natural_align}}
+use Rattle.oc_shows.specs.{Built.{IsStarted}, Computed.{computed_symbol, keys_after, keys_in}, Shows.{AreNumbered}}
 use Rattle.oc_shows.specs.Started.{groups_by, plain_draft, start_of, stored_section}
 use Rattle.oc_shows.proofs.StartedLaws.{start_is_started}
 use Rattle.oc_omf_records.specs.Blocks.{denotation}
 use Rattle.oc_omf_records.proofs.CopyLaws.{length-denotation}
-use Rattle.oc_omf.specs.declared.structures.Segment.{Segment}
-use Rattle.oc_omf.specs.Structures.{Piece}
-use Rattle.oc_omf.specs.Entries.{Entry, entries_in}
-use Rattle.oc_omf.specs.Rules.{omf_dialect}
+use Rattle.oc_omf.specs.{declared.structures.Segment.{Segment}, Structures.{Piece}, Entries.{Entry, entries_in}, Rules.{omf_dialect}}
 use Rattle.oc_omf.specs.Sections.{blocks_in, contents_of, is_covered, laid_over, piece_size, pieces_of, section_of, sections_in, segment_kind, segment_size}
-use Rattle.oc_omf.specs.Symbols.{Mention, mentions_in, symbol_of, symbols_in}
+use Rattle.oc_omf.specs.{Symbols.{Mention, mentions_in, symbol_of, symbols_in}, Tables.{name_at, tables_of}}
 use Rattle.oc_omf.specs.Tables as all
-use Rattle.oc_omf.specs.Tables.{name_at, tables_of}
-use Rattle.oc_omf_read.specs.Bindings.{binding_seen, place_binding}
-use Rattle.oc_omf_read.specs.Built.{started}
-use Rattle.oc_omf_read.specs.Declarations.{declarations_in}
-use Rattle.oc_omf_read.specs.Mentioned.{ModuleSymbol, seen_in}
+use Rattle.oc_omf_read.specs.{Bindings.{binding_seen, place_binding}, Built.{started}, Declarations.{declarations_in}, Mentioned.{ModuleSymbol, seen_in}}
 use Rattle.oc_omf_read.proofs.BindingLemmas.{binding_is}
 
 -- ... no section is in a group

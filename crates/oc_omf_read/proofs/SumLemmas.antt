@@ -1,37 +1,23 @@
 -- The limits that segments without a fault keep.
 use Rattle.std.proofs.Common.{◌≡◌, ℕ, zero, suc, ◌+◌, ◌<◌, ◌≤◌, ◌⊎◌, inl, inr, Bool, true, false, cond, List, [], ◌∷◌, ◌++◌, length, map, Option, None, Some, Ok, Err, refl, sym, ◌∙◌, ap, subst, arith, append-nil, length-append}
-use Rattle.std.specs.Prelude.{◌&&◌, ◌||◌, not, flat_map, nat_eq, nat_lt, slice_get}
-use Rattle.std.specs.List.{AllByRecursion, sum_by}
+use Rattle.std.specs.{Prelude.{◌&&◌, ◌||◌, not, flat_map, nat_eq, nat_lt, slice_get}, List.{AllByRecursion, sum_by}}
 use Rattle.std.specs.Option.{option_map, option_map_or, unwrap_or}
-use Rattle.std.proofs.lemmas.Bool.{eqb-true, true≢false}
-use Rattle.std.proofs.lemmas.Bool.Decides.{nat_tests}
-use Rattle.std.proofs.lemmas.List.Sums.{sum_by-append}
-use Rattle.std.proofs.lemmas.Option.{none-some, slice_get-map}
+use Rattle.std.proofs.lemmas.{Bool.{eqb-true, true≢false}, Bool.Decides.{nat_tests}, List.Sums.{sum_by-append}, Option.{none-some, slice_get-map}}
 use Rattle.std.proofs.Math.Seq.{take-length}
 use Rattle.oc_linking.specs.FirstFault.{first_broken, stage_fault}
 use Rattle.oc_shelf.proofs.ReadingLaws.StageLemmas.{all_hold}
-use Rattle.oc_omf_records.specs.declared.records.Entry.{Entry as Record}
-use Rattle.oc_omf_records.specs.NextEntry.{entry_of, end_of_entry, is_whole}
+use Rattle.oc_omf_records.specs.{declared.records.Entry.{Entry as Record}, NextEntry.{entry_of, end_of_entry, is_whole}}
 use Rattle.oc_omf.specs.declared.constants.TheConstants.{EXTDEF, PUBDEF, LNAMES, SEGDEF, GRPDEF, FIXUPP, LEDATA, LIDATA, COMDEF, LEXTDEF, LPUBDEF, MODEND}
-use Rattle.oc_omf.specs.declared.structures.Segment.{Segment}
-use Rattle.oc_omf.specs.Cursor.{Reading}
-use Rattle.oc_omf.specs.Structures.{segment_read}
+use Rattle.oc_omf.specs.{declared.structures.Segment.{Segment}, Cursor.{Reading}, Structures.{segment_read}}
 use Rattle.oc_omf.specs.Entries.{Entry, all_read, entries_in, even_of, is_kind, is_wide, next_place, places_in, places_upto, said_at, says_nothing}
-use Rattle.oc_omf.specs.HeaderFaults.{IsModule}
-use Rattle.oc_omf.specs.Sections.{segment_size}
-use Rattle.oc_omf.specs.SectionFaults.{all_bytes, end_conditions, section_stage, segment_conditions}
-use Rattle.oc_omf.specs.Tables as all
+use Rattle.oc_omf.specs.{HeaderFaults.{IsModule}, Sections.{segment_size}, SectionFaults.{all_bytes, end_conditions, section_stage, segment_conditions}}
 use Rattle.oc_omf.specs.Tables.{tables_of}
+use Rattle.oc_omf.specs.Tables as all
 use Rattle.oc_omf.proofs.PlaceLemmas.{few_entries, next_inside, whole_at}
-use Rattle.oc_omf_judge.proofs.StateLaws.{with_entry, tables_more}
-use Rattle.oc_omf_judge.proofs.StageLaws.{entry_count}
-use Rattle.oc_omf_read.specs.declared.class.EntryClass.{EntryClass}
+use Rattle.oc_omf_judge.proofs.{StateLaws.{with_entry, tables_more}, StageLaws.{entry_count}}
+use Rattle.oc_omf_read.specs.{declared.class.EntryClass.{EntryClass}, Classes.{class_of}, Defined.{read_in, said}}
 use Rattle.oc_omf_read.specs.declared.class.EntryClass.TheVariants as class
-use Rattle.oc_omf_read.specs.Classes.{class_of}
-use Rattle.oc_omf_read.specs.Defined.{read_in, said}
-use Rattle.oc_omf_read.proofs.ClassLemmas.{read_whole}
-use Rattle.oc_omf_read.proofs.DefinedLemmas.{entry_here, said_by_class, tables_upto}
-use Rattle.oc_omf_read.proofs.SoundEntries.{entry_sound, segment_sound}
+use Rattle.oc_omf_read.proofs.{ClassLemmas.{read_whole}, DefinedLemmas.{entry_here, said_by_class, tables_upto}, SoundEntries.{entry_sound, segment_sound}}
 
 -- ... an entry has one segment at most
 

@@ -1,43 +1,24 @@
 -- The symbols of a module without faults, added one after the other.
 use Rattle.std.proofs.Common.{◌≡◌, ℕ, zero, suc, ◌+◌, ◌<◌, ◌≤◌, Bool, true, false, List, [], ◌∷◌, length, map, take, Option, None, Some, Ok, refl, sym, ◌∙◌, ap, arith, length-take}
-use Rattle.std.specs.Prelude.{◌||◌, slice_get}
-use Rattle.std.specs.List.{enumerate_from, list_any}
-use Rattle.std.specs.Option.{is_some, option_map, option_map_or}
-use Rattle.std.proofs.lemmas.Bool.{true≢false}
-use Rattle.std.proofs.lemmas.List.{length-map, map-append}
-use Rattle.std.proofs.lemmas.List.FromFn.{length-enumerate_from}
+use Rattle.std.specs.{Prelude.{◌||◌, slice_get}, List.{enumerate_from, list_any}, Option.{is_some, option_map, option_map_or}}
+use Rattle.std.proofs.lemmas.{Bool.{true≢false}, List.{length-map, map-append}, List.FromFn.{length-enumerate_from}}
 use Rattle.std.proofs.lemmas.Option.{none-some, same_Some, slice_get-map, slice_get_within}
 use Rattle.oc_base.specs.declared.format.Format.TheVariants.{Omf}
-use Rattle.oc_linking.specs.declared.terms.Binding.{Binding}
-use Rattle.oc_linking.specs.declared.terms.Binding.TheVariants.{Undefined, Common}
-use Rattle.oc_linking.specs.FirstFault.{first_fault}
-use Rattle.oc_linking.specs.Parts as parts
+use Rattle.oc_linking.specs.{declared.terms.Binding.{Binding}, declared.terms.Binding.TheVariants.{Undefined, Common}, FirstFault.{first_fault}}
 use Rattle.oc_linking.specs.Parts.{is_local}
-use Rattle.oc_neutral.specs.declared.symbol.Symbol.{Symbol}
-use Rattle.oc_neutral.specs.Building.{symbol_added}
-use Rattle.oc_shows.specs.Computed.{computed_symbol, placed_binding}
-use Rattle.oc_neutral.specs.Keeping.{is_again}
-use Rattle.oc_neutral.specs.Powers.{natural_align}
-use Rattle.oc_shows.specs.Started.{plain_draft, stored_section}
-use Rattle.oc_shows.proofs.BuiltSteps.{name_is_new}
+use Rattle.oc_linking.specs.Parts as parts
+use Rattle.oc_neutral.specs.{declared.symbol.Symbol.{Symbol}, Building.{symbol_added}, Keeping.{is_again}, Powers.{natural_align}}
+use Rattle.oc_shows.specs.{Computed.{computed_symbol, placed_binding}, Started.{plain_draft, stored_section}}
+use Rattle.oc_shows.proofs.{BuiltSteps.{name_is_new}, StartedLaws.{symbol_more}}
 use Rattle.oc_neutral.proofs.FieldLists.{take_here}
-use Rattle.oc_shows.proofs.StartedLaws.{symbol_more}
-use Rattle.oc_omf.specs.Entries.{Entry}
-use Rattle.oc_omf.specs.Sections.{sections_in}
-use Rattle.oc_omf.specs.SymbolFaults.{symbol_stages}
-use Rattle.oc_omf.specs.Symbols.{Mention, binding_of, mentions_in, same_symbol, symbol_of, symbols_in}
-use Rattle.oc_omf.specs.Tables.{tables_of}
+use Rattle.oc_omf.specs.{Entries.{Entry}, Sections.{sections_in}, SymbolFaults.{symbol_stages}}
+use Rattle.oc_omf.specs.{Symbols.{Mention, binding_of, mentions_in, same_symbol, symbol_of, symbols_in}, Tables.{tables_of}}
 use Rattle.oc_omf.proofs.EntryLemmas.{numbered_at}
-use Rattle.oc_omf_read.specs.declared.mentioned.Mentioned.{Mentioned}
-use Rattle.oc_omf_read.specs.declared.mentioned.Mentions.{Mentions}
-use Rattle.oc_omf_read.specs.Bindings.{binding_seen, place_binding, symbol_seen}
-use Rattle.oc_omf_read.specs.Built.{symboled}
-use Rattle.oc_omf_read.specs.Declarations.{declarations_in}
+use Rattle.oc_omf_read.specs.{declared.mentioned.Mentioned.{Mentioned}, declared.mentioned.Mentions.{Mentions}}
+use Rattle.oc_omf_read.specs.{Bindings.{binding_seen, place_binding, symbol_seen}, Built.{symboled}, Declarations.{declarations_in}}
 use Rattle.oc_omf_read.specs.Mentioned.{HasDeclarations, ModuleSymbol, mentioned_symbols, seen_in, seen_of}
-use Rattle.oc_omf_read.proofs.BindingLemmas.{binding_is, mentions_are}
-use Rattle.oc_omf_read.proofs.LocalLemmas.{local_placed}
+use Rattle.oc_omf_read.proofs.{BindingLemmas.{binding_is, mentions_are}, LocalLemmas.{local_placed}, MentionLemmas.{AreApart, symbols_apart}}
 use Rattle.oc_omf_judge.proofs.MentionLemmas.{same_self}
-use Rattle.oc_omf_read.proofs.MentionLemmas.{AreApart, symbols_apart}
 
 -- ... bindings
 

@@ -1,54 +1,25 @@
 -- What is built of a module without faults can be finished, and shows it.
 use Rattle.std.proofs.Common.{◌≡◌, ℕ, zero, suc, ◌+◌, ◌≤◌, List, [], ◌∷◌, ◌++◌, get_or, length, map, Option, None, Some, refl, sym, ◌∙◌, ap, subst, arith}
-use Rattle.std.specs.Prelude.{slice_get}
-use Rattle.std.specs.List.{AllByRecursion, enumerate_from}
-use Rattle.std.specs.Option.{option_map}
+use Rattle.std.specs.{Prelude.{slice_get}, List.{AllByRecursion, enumerate_from}, Option.{option_map}}
 use Rattle.std.proofs.Math.Seq.{take-length}
-use Rattle.std.proofs.lemmas.Bool.{true≢false}
-use Rattle.std.proofs.lemmas.Option.{none-some}
+use Rattle.std.proofs.lemmas.{Bool.{true≢false}, Option.{none-some}}
 use Rattle.oc_chains.specs.declared.field.Field.{Field}
-use Rattle.oc_linking.specs.declared.terms.Keep.{Keep}
-use Rattle.oc_linking.specs.FirstFault.{Stage, first_fault, stage_fault}
+use Rattle.oc_linking.specs.{declared.terms.Keep.{Keep}, FirstFault.{Stage, first_fault, stage_fault}}
 use Rattle.oc_linking.specs.Parts as parts
-use Rattle.oc_neutral.specs.declared.reloc.Reloc.{Reloc}
-use Rattle.oc_neutral.specs.declared.section.Section.{Section}
-use Rattle.oc_neutral.specs.Building.{Draft}
-use Rattle.oc_shows.specs.Built.{HasAdded, IsStarted}
-use Rattle.oc_shows.specs.Computed.{computed_symbol}
-use Rattle.oc_shows.specs.Finished.{AreFinal, LeavesBlanks}
-use Rattle.oc_neutral.specs.Invariants.{AreBegun, AreBytes, IsAlign, IsComplete, IsHinted, IsSymbol, NamesOriginal, groups_of}
-use Rattle.oc_neutral.specs.Objects.{Object}
-use Rattle.oc_shows.specs.Readable.{IsReadable}
-use Rattle.oc_shows.specs.Shows.{Shows}
+use Rattle.oc_neutral.specs.{declared.reloc.Reloc.{Reloc}, declared.section.Section.{Section}, Building.{Draft}}
+use Rattle.oc_neutral.specs.{Invariants.{AreBegun, AreBytes, IsAlign, IsComplete, IsHinted, IsSymbol, NamesOriginal, groups_of}, Objects.{Object}}
+use Rattle.oc_shows.specs.{Built.{HasAdded, IsStarted}, Computed.{computed_symbol}, Finished.{AreFinal, LeavesBlanks}, Readable.{IsReadable}, Shows.{Shows}}
 use Rattle.oc_shows.specs.Started.{stored_section}
-use Rattle.oc_shows.proofs.BuiltLaws.{built_shows}
-use Rattle.oc_shows.proofs.BuiltWhole.{built_is_complete, built_is_readable}
-use Rattle.oc_shows.proofs.StartedLaws.{fieldless_at}
-use Rattle.oc_shelf.proofs.ReadingLaws.StageLemmas.{first_fault-append}
-use Rattle.oc_shelf.proofs.WritingLaws.MemberLemmas.{of_map}
-use Rattle.oc_omf.specs.declared.structures.Segment.{Segment}
-use Rattle.oc_omf.specs.Entries.{Entry, entries_in}
-use Rattle.oc_omf.specs.HeaderFaults.{IsModule, header_stage}
-use Rattle.oc_omf.specs.RelocationFaults.{relocation_stages}
-use Rattle.oc_omf.specs.Rules.{fault_of, omf_dialect, stages_of}
-use Rattle.oc_omf.specs.SectionFaults.{section_stage}
-use Rattle.oc_omf.specs.Sections.{align_code, section_of, sections_in}
-use Rattle.oc_omf.specs.SymbolFaults.{symbol_stages}
-use Rattle.oc_omf.specs.Symbols.{symbols_in}
+use Rattle.oc_shows.proofs.{BuiltLaws.{built_shows}, BuiltWhole.{built_is_complete, built_is_readable}, StartedLaws.{fieldless_at}}
+use Rattle.oc_shelf.proofs.{ReadingLaws.StageLemmas.{first_fault-append}, WritingLaws.MemberLemmas.{of_map}, ReadingLaws.CollectedLemmas.{all_mapped}}
+use Rattle.oc_omf.specs.{declared.structures.Segment.{Segment}, Entries.{Entry, entries_in}, HeaderFaults.{IsModule, header_stage}}
+use Rattle.oc_omf.specs.{RelocationFaults.{relocation_stages}, Rules.{fault_of, omf_dialect, stages_of}, SectionFaults.{section_stage}}
+use Rattle.oc_omf.specs.{Sections.{align_code, section_of, sections_in}, SymbolFaults.{symbol_stages}, Symbols.{symbols_in}, Tables.{tables_of}}
 use Rattle.oc_omf.specs.Tables as all
-use Rattle.oc_omf.specs.Tables.{tables_of}
-use Rattle.oc_omf_read.specs.Built.{started}
-use Rattle.oc_omf_read.specs.Given.{given_at}
-use Rattle.oc_omf_read.proofs.AddedFields.{standing_named}
-use Rattle.oc_omf_read.proofs.ReadyFields.{few_symbols_in}
-use Rattle.oc_omf_read.proofs.ContentLemmas.{good_segment}
-use Rattle.oc_omf_read.proofs.GivenFields.{free_or_given}
-use Rattle.oc_omf_read.proofs.ListedFields.{given_standing}
-use Rattle.oc_omf_read.proofs.LocalLemmas.{none_of}
-use Rattle.oc_omf_read.proofs.ReadableLemmas.{readable}
-use Rattle.oc_omf_read.proofs.StandingFields.{standing_hint}
+use Rattle.oc_omf_read.specs.{Built.{started}, Given.{given_at}}
+use Rattle.oc_omf_read.proofs.{AddedFields.{standing_named}, ReadyFields.{few_symbols_in}, ContentLemmas.{good_segment}, GivenFields.{free_or_given}}
+use Rattle.oc_omf_read.proofs.{ListedFields.{given_standing}, LocalLemmas.{none_of}, ReadableLemmas.{readable}, StandingFields.{standing_hint}}
 use Rattle.oc_omf_read.proofs.WholeSymbols.{symbol_whole}
-use Rattle.oc_shelf.proofs.ReadingLaws.CollectedLemmas.{all_mapped}
 
 groups_none : (t : all.Tables) (xs : List (ℕ × Segment)) → AreBegun 0 0 (groups_of (map (stored_section []) (map (section_of t) xs)))
 groups_none t [] = refl

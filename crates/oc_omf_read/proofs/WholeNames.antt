@@ -1,28 +1,20 @@
 -- Names that are mentioned are bytes, and lengths of communals are small.
 use Rattle.std.proofs.Common.{◌≡◌, ℕ, zero, suc, ◌+◌, ◌-◌, ◌^◌, ◌<◌, ◌≤◌, Bool, true, false, cond, List, [], ◌∷◌, drop, length, map, Option, None, Some, Ok, Err, refl, sym, ◌∙◌, ap, subst, arith}
-use Rattle.std.specs.Prelude.{nat_eq, nat_le, nat_lt, slice_range}
-use Rattle.std.specs.List.{AllByRecursion}
+use Rattle.std.specs.{Prelude.{nat_eq, nat_le, nat_lt, slice_range}, List.{AllByRecursion}}
 use Rattle.oc_base.specs.Numbers.{number_at}
 use Rattle.oc_neutral.specs.Invariants.{AreBytes}
-use Rattle.oc_omf_records.specs.declared.records.Entry.{Entry as Record}
-use Rattle.oc_omf_records.specs.NextEntry.{end_of_entry, entry_of}
-use Rattle.oc_omf.specs.declared.cut.Cut.{Cut}
-use Rattle.oc_omf.specs.declared.structures.PublicBase.{PublicBase}
-use Rattle.oc_omf.specs.declared.structures.Communal.{Communal}
+use Rattle.oc_omf_records.specs.{declared.records.Entry.{Entry as Record}, NextEntry.{end_of_entry, entry_of}}
+use Rattle.oc_omf.specs.{declared.cut.Cut.{Cut}, declared.structures.PublicBase.{PublicBase}, declared.structures.Communal.{Communal}}
 use Rattle.oc_omf.specs.Cursor.{Reading, and_more, each_read, each_upto, index_read, name_read, name_end, next, number_read}
 use Rattle.oc_omf.specs.Structures.{External, Public, base_read, communal_length, communal_read, communal_width, external_read, long_size, public_read}
 use Rattle.oc_omf.specs.Entries.{Entry, all_read, entries_in, is_wide}
 use Rattle.oc_omf.proofs.EachLemmas.{next_goes}
-use Rattle.oc_omf_read.specs.declared.class.EntryClass.{EntryClass}
-use Rattle.oc_omf_read.specs.declared.class.EntryClass.TheVariants as class
-use Rattle.oc_omf_read.specs.Classes.{class_of}
-use Rattle.oc_omf_read.specs.Defined.{said}
+use Rattle.oc_omf_read.specs.{declared.class.EntryClass.{EntryClass}, Classes.{class_of}, Defined.{said}}
 use Rattle.oc_omf_read.specs.Declarations.{Declaration, of_external, of_public, publics_behind, public_declarations, declarations_by, declarations_in}
 use Rattle.oc_omf_read.specs.Mentioned.{length_said}
-use Rattle.oc_omf_read.proofs.ContentLemmas.{all_flat}
-use Rattle.oc_omf_read.proofs.DefinedLemmas.{said_by_class}
-use Rattle.oc_omf_read.proofs.DeclarationLemmas.{communals_are, externals_are, local_externals_are, local_publics_are, publics_are}
-use Rattle.oc_omf_read.proofs.SumLemmas.{said_here}
+use Rattle.oc_omf_read.specs.declared.class.EntryClass.TheVariants as class
+use Rattle.oc_omf_read.proofs.{ContentLemmas.{all_flat}, DefinedLemmas.{said_by_class}}
+use Rattle.oc_omf_read.proofs.{DeclarationLemmas.{communals_are, externals_are, local_externals_are, local_publics_are, publics_are}, SumLemmas.{said_here}}
 use Rattle.oc_omf.specs.declared.cut.Cut.TheVariants as cut
 use Rattle.std.proofs.lemmas.Option.{none-some, same_Some}
 use Rattle.oc_shelf.proofs.ReadingLaws.ByteLemmas.{room, number_small, all_drop, all_take}

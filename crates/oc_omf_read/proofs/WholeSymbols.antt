@@ -1,57 +1,35 @@
 -- The symbols of a module without faults have names, and lie in their segments.
 use Rattle.std.proofs.Common.{◌≡◌, ◌≢◌, ℕ, zero, suc, ◌+◌, ◌-◌, ◌^◌, ◌<◌, ◌≤◌, Bool, true, false, cond, List, [], ◌∷◌, ◌++◌, length, map, Option, None, Some, Result, Ok, Err, refl, sym, ◌∙◌, ap, subst, arith, length-append}
-use Rattle.std.specs.Prelude.{◌&&◌, ◌||◌, nat_eq, nat_le, nat_lt, slice_get}
-use Rattle.std.specs.List.{AllByRecursion, enumerate_from, list_any}
+use Rattle.std.specs.{Prelude.{◌&&◌, ◌||◌, nat_eq, nat_le, nat_lt, slice_get}, List.{AllByRecursion, enumerate_from, list_any}}
 use Rattle.std.specs.Option.{option_map, option_map_or, unwrap_or}
-use Rattle.std.proofs.lemmas.Bool.{true≢false}
-use Rattle.std.proofs.lemmas.Bool.Decides.{nat_tests}
-use Rattle.std.proofs.lemmas.Option.{none-some, same_Some, slice_get-map, slice_get_within}
+use Rattle.std.proofs.lemmas.{Bool.{true≢false}, Bool.Decides.{nat_tests}, Option.{none-some, same_Some, slice_get-map, slice_get_within}}
 use Rattle.oc_base.specs.declared.code.Code.TheVariants.{DuplicateName, SymbolKind, BadSymbol}
-use Rattle.oc_linking.specs.FirstFault.{Condition, fault_of, first_broken, first_fault, stage_fault}
-use Rattle.oc_linking.specs.Numbers.{first_from, or_else}
+use Rattle.oc_linking.specs.{FirstFault.{Condition, fault_of, first_broken, first_fault, stage_fault}, Numbers.{first_from, or_else}}
 use Rattle.oc_linking.specs.Parts as parts
 use Rattle.oc_linking.proofs.Searching.{first_from_found}
-use Rattle.oc_shows.specs.Computed.{computed_symbol}
-use Rattle.oc_neutral.specs.Invariants.{AreBytes, HasOffset, IsAlign, IsBinding, IsSymbol}
-use Rattle.oc_neutral.specs.Objects.{Object}
-use Rattle.oc_neutral.specs.Powers.{natural_align}
-use Rattle.oc_shows.specs.Started.{stored_section}
+use Rattle.oc_shows.specs.{Computed.{computed_symbol}, Started.{stored_section}}
+use Rattle.oc_neutral.specs.{Invariants.{AreBytes, HasOffset, IsAlign, IsBinding, IsSymbol}, Objects.{Object}, Powers.{natural_align}}
 use Rattle.oc_neutral.proofs.Positions.{each_at}
 use Rattle.oc_shelf.proofs.ReadingLaws.StageLemmas.{all_hold, clean_at, clean_both}
-use Rattle.oc_omf_records.specs.declared.records.Entry.{Entry as Record}
-use Rattle.oc_omf_records.specs.NextEntry.{entry_of}
-use Rattle.oc_omf.specs.declared.cut.Cut.{Cut}
-use Rattle.oc_omf.specs.declared.structures.PublicBase.{PublicBase}
-use Rattle.oc_omf.specs.declared.structures.Communal.{Communal}
-use Rattle.oc_omf.specs.declared.structures.Segment.{Segment}
-use Rattle.oc_omf.specs.Cursor.{Reading, Read, each_read, index_read, name_read, number_read}
-use Rattle.oc_omf.specs.Structures.{External, Public, base_read, long_size, public_read}
-use Rattle.oc_omf.specs.Entries.{Entry, all_read, entries_in, is_wide, whole}
-use Rattle.oc_omf.specs.SectionFaults.{section_stage}
-use Rattle.oc_omf.specs.Sections.{section_of, sections_in, segment_size, size_at}
+use Rattle.oc_omf_records.specs.{declared.records.Entry.{Entry as Record}, NextEntry.{entry_of}}
+use Rattle.oc_omf.specs.{declared.cut.Cut.{Cut}, declared.structures.PublicBase.{PublicBase}, declared.structures.Communal.{Communal}}
+use Rattle.oc_omf.specs.{declared.structures.Segment.{Segment}, Cursor.{Reading, Read, each_read, index_read, name_read, number_read}}
+use Rattle.oc_omf.specs.{Structures.{External, Public, base_read, long_size, public_read}, Entries.{Entry, all_read, entries_in, is_wide, whole}}
+use Rattle.oc_omf.specs.{SectionFaults.{section_stage}, Sections.{section_of, sections_in, segment_size, size_at}}
 use Rattle.oc_omf.specs.Symbols.{Mention, symbol_of, symbols_in, same_symbol}
-use Rattle.oc_omf.specs.SymbolFaults as faults
 use Rattle.oc_omf.specs.SymbolFaults.{base_conditions, communal_conditions, external_conditions, externals_before, is_empty, is_other_length, is_undefined, public_conditions, symbol_fault, symbol_stage, symbol_stages, symbol_table, read_conditions}
-use Rattle.oc_omf.specs.Tables as all
 use Rattle.oc_omf.specs.Tables.{is_indexed, tables_of}
-use Rattle.oc_omf.proofs.EachLemmas.{next_goes}
-use Rattle.oc_omf.proofs.EntryLemmas.{numbered_at}
-use Rattle.oc_omf_read.specs.declared.class.EntryClass.{EntryClass}
-use Rattle.oc_omf_read.specs.declared.class.EntryClass.TheVariants as class
-use Rattle.oc_omf_read.specs.Bindings.{binding_seen, place_binding, symbol_seen}
-use Rattle.oc_omf_read.specs.Built.{started}
-use Rattle.oc_omf_read.specs.Classes.{class_of}
-use Rattle.oc_omf_read.specs.Defined.{said}
-use Rattle.oc_omf_read.specs.Declarations.{Declaration, of_external, of_public, declarations_by, declarations_in}
+use Rattle.oc_omf.specs.SymbolFaults as faults
+use Rattle.oc_omf.specs.Tables as all
+use Rattle.oc_omf.proofs.{EachLemmas.{next_goes}, EntryLemmas.{numbered_at}}
+use Rattle.oc_omf_read.specs.{declared.class.EntryClass.{EntryClass}, Bindings.{binding_seen, place_binding, symbol_seen}, Built.{started}, Classes.{class_of}}
+use Rattle.oc_omf_read.specs.{Defined.{said}, Declarations.{Declaration, of_external, of_public, declarations_by, declarations_in}}
 use Rattle.oc_omf_read.specs.Mentioned.{length_in, length_said, mention_of, mentioned_symbols, place_in, place_said, seen_in}
-use Rattle.oc_omf_read.proofs.BuildLemmas.{section_at, segment_there}
-use Rattle.oc_omf_read.proofs.ClassLemmas.{publics_by}
-use Rattle.oc_omf_read.proofs.ContentLemmas.{all_append, all_flat, segments_front, size_before}
-use Rattle.oc_omf_read.proofs.DefinedLemmas.{said_by_class, tables_upto}
-use Rattle.oc_omf_read.proofs.LocalLemmas.{all_lists, any_at, any_there, behind, stage_clean}
-use Rattle.oc_omf_read.proofs.SumLemmas.{said_here}
-use Rattle.oc_omf_read.proofs.SymbolLemmas.{symbol_here, symbol_is, as_many}
-use Rattle.oc_omf_read.proofs.WholeNames.{IsOfBytes, all_has, declarations_bytes}
+use Rattle.oc_omf_read.specs.declared.class.EntryClass.TheVariants as class
+use Rattle.oc_omf_read.proofs.{BuildLemmas.{section_at, segment_there}, ClassLemmas.{publics_by}}
+use Rattle.oc_omf_read.proofs.{ContentLemmas.{all_append, all_flat, segments_front, size_before}, DefinedLemmas.{said_by_class, tables_upto}}
+use Rattle.oc_omf_read.proofs.{LocalLemmas.{all_lists, any_at, any_there, behind, stage_clean}, SumLemmas.{said_here}}
+use Rattle.oc_omf_read.proofs.{SymbolLemmas.{symbol_here, symbol_is, as_many}, WholeNames.{IsOfBytes, all_has, declarations_bytes}}
 use Rattle.oc_omf_read.proofs.MentionLemmas.{any_mentioned}
 use Rattle.oc_omf_judge.proofs.StageLaws.{read_in_file}
 

@@ -1,19 +1,11 @@
 -- What is known while the relocations of a module without faults are added (our profile).
-use Rattle.std.specs.Prelude.{◌≡◌, ℕ, List, None, Vec}
-use Rattle.std.specs.Global.{Global}
+use Rattle.std.specs.{Prelude.{◌≡◌, ℕ, List, None, Vec}, Global.{Global}}
 use Rattle.oc_linking.specs.FirstFault.{first_fault, stage_fault}
 use Rattle.oc_shows.specs.Built.{IsStarted}
 use Rattle.oc_neutral.specs.Invariants.{AreBytes}
-use Rattle.oc_omf.specs.Entries.{entries_in}
-use Rattle.oc_omf.specs.HeaderFaults.{IsModule}
-use Rattle.oc_omf.specs.RelocationFaults.{relocation_stages}
-use Rattle.oc_omf.specs.Rules.{omf_dialect}
-use Rattle.oc_omf.specs.SectionFaults.{section_stage}
-use Rattle.oc_omf.specs.SymbolFaults.{symbol_stages}
-use Rattle.oc_omf.specs.Tables.{tables_of}
-use Rattle.oc_omf_read.specs.declared.fixes.FixupContext.{FixupContext}
-use Rattle.oc_omf_read.specs.Built.{started}
-use Rattle.oc_omf_read.specs.Contents.{AreStored}
+use Rattle.oc_omf.specs.{Entries.{entries_in}, HeaderFaults.{IsModule}, RelocationFaults.{relocation_stages}, Rules.{omf_dialect}}
+use Rattle.oc_omf.specs.{SectionFaults.{section_stage}, SymbolFaults.{symbol_stages}, Tables.{tables_of}}
+use Rattle.oc_omf_read.specs.{declared.fixes.FixupContext.{FixupContext}, Built.{started}, Contents.{AreStored}}
 
 -- the stages have no fault, the vectors have the bytes of segments, and what is built before the relocations is what the module starts with
 pub record IsReady (s : FixupContext) (vectors : List (Vec ℕ Global)) : Type 0 where

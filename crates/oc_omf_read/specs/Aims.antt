@@ -1,35 +1,22 @@
 -- What a fixup does, by what its frame and its target name (TIS OMF 1.1, "FIXUPP"; our profile).
 use Rattle.std.specs.Prelude.{ℕ, ◌-◌, Bool, true, false, ◌&&◌, ◌||◌, nat_eq, if◌then◌else◌, Option, Some, None}
 use Rattle.std.specs.Option.{option_and_then, option_map, option_map_or}
-use Rattle.oc_linking.specs.declared.terms.Keep.{Keep}
+use Rattle.oc_linking.specs.{declared.terms.Keep.{Keep}, Keeping.{keeps}}
 use Rattle.oc_linking.specs.Parts as parts
 use Rattle.oc_linking.specs.Rules as rules
 use Rattle.oc_linking.specs.Targets as file
-use Rattle.oc_linking.specs.Keeping.{keeps}
 use Rattle.oc_shows.specs.Computed.{position_of}
 use Rattle.oc_neutral.specs.declared.reloc.Target.{Target}
 use Rattle.oc_neutral.specs.declared.reloc.Target.TheVariants as target
-use Rattle.oc_omf.specs.declared.constants.TheConstants.{OFFSET_32}
-use Rattle.oc_omf.specs.declared.structures.Fixup.{Fixup}
-use Rattle.oc_omf.specs.declared.structures.Method.{Method}
-use Rattle.oc_omf.specs.declared.structures.Segment.{Segment}
-use Rattle.oc_omf.specs.declared.threads.Threads.{Threads}
-use Rattle.oc_omf.specs.Entries.{entries_in}
-use Rattle.oc_omf.specs.Sections.{segment_kind}
-use Rattle.oc_omf.specs.Tables.{Tables, indexed, tables_of}
-use Rattle.oc_omf.specs.Targets.{Meaning, external_at, is_flat, meaning_of, same_named, target_of}
-use Rattle.oc_omf_read.specs.declared.fix.Fix.{Fix}
-use Rattle.oc_omf_read.specs.declared.fix.FixupFrame.{FixupFrame}
-use Rattle.oc_omf_read.specs.declared.fix.FixupFrame.TheVariants as framed
-use Rattle.oc_omf_read.specs.declared.fixes.Aim.{Aim}
-use Rattle.oc_omf_read.specs.declared.fixes.Named.{Named}
-use Rattle.oc_omf_read.specs.declared.fixes.Named.TheVariants as named
-use Rattle.oc_omf_read.specs.declared.fixes.FixupContext.{FixupContext}
-use Rattle.oc_omf_read.specs.Given.{against}
-use Rattle.oc_omf_read.specs.Declarations.{declarations_in}
+use Rattle.oc_omf.specs.{declared.constants.TheConstants.{OFFSET_32}, declared.structures.Fixup.{Fixup}, declared.structures.Method.{Method}}
+use Rattle.oc_omf.specs.{declared.structures.Segment.{Segment}, declared.threads.Threads.{Threads}, Entries.{entries_in}, Sections.{segment_kind}}
+use Rattle.oc_omf.specs.{Tables.{Tables, indexed, tables_of}, Targets.{Meaning, external_at, is_flat, meaning_of, same_named, target_of}}
+use Rattle.oc_omf_read.specs.{declared.fix.Fix.{Fix}, declared.fix.FixupFrame.{FixupFrame}, declared.fixes.Aim.{Aim}, declared.fixes.Named.{Named}}
+use Rattle.oc_omf_read.specs.{declared.fixes.FixupContext.{FixupContext}, Given.{against}, Declarations.{declarations_in}}
 use Rattle.oc_omf_read.specs.Mentioned.{HasDeclarations, ModuleSymbol}
-use Rattle.oc_omf_judge.specs.Defined.{IsDefined}
-use Rattle.oc_omf_judge.specs.Threads.{method_by}
+use Rattle.oc_omf_read.specs.declared.fix.FixupFrame.TheVariants as framed
+use Rattle.oc_omf_read.specs.declared.fixes.Named.TheVariants as named
+use Rattle.oc_omf_judge.specs.{Defined.{IsDefined}, Threads.{method_by}}
 
 -- what is known is what the module gives
 pub record Sees (s : FixupContext) : Type 0 where

@@ -1,13 +1,9 @@
 -- Symbols of the object, by what is seen of them (our profile).
-use Rattle.std.specs.Prelude.{ℕ, ◌-◌, Bool, false, if◌then◌else◌}
-use Rattle.std.specs.Option.{option_map_or}
-use Rattle.oc_linking.specs.declared.terms.Mark.TheVariants.{NoType}
-use Rattle.oc_linking.specs.declared.terms.Visibility.TheVariants.{Default}
-use Rattle.oc_linking.specs.declared.terms.Value.TheVariants as value
-use Rattle.oc_linking.specs.declared.terms.Binding.{Binding}
+use Rattle.std.specs.{Prelude.{ℕ, ◌-◌, Bool, false, if◌then◌else◌}, Option.{option_map_or}}
+use Rattle.oc_linking.specs.{declared.terms.Mark.TheVariants.{NoType}, declared.terms.Visibility.TheVariants.{Default}, declared.terms.Binding.{Binding}}
 use Rattle.oc_linking.specs.declared.terms.Binding.TheVariants.{Local, Global, Undefined, Common}
-use Rattle.oc_neutral.specs.declared.symbol.Symbol.{Symbol}
-use Rattle.oc_neutral.specs.Powers.{natural_align}
+use Rattle.oc_linking.specs.declared.terms.Value.TheVariants as value
+use Rattle.oc_neutral.specs.{declared.symbol.Symbol.{Symbol}, Powers.{natural_align}}
 use Rattle.oc_omf_read.specs.Mentioned.{ModuleSymbol}
 
 -- a symbol that is defined at an offset of the segment of an index

@@ -1,21 +1,13 @@
 -- What is built of a module, step by step (our profile).
-use Rattle.std.specs.Prelude.{◌≡◌, ℕ, ◌+◌, List, [], length, map, take, slice_get, Option, Some, None}
-use Rattle.std.specs.Option.{option_and_then, option_map}
+use Rattle.std.specs.{Prelude.{◌≡◌, ℕ, ◌+◌, List, [], length, map, take, slice_get, Option, Some, None}, Option.{option_and_then, option_map}}
 use Rattle.oc_base.specs.declared.format.Format.TheVariants.{Omf}
 use Rattle.oc_linking.specs.declared.terms.Kind.{Kind}
-use Rattle.oc_neutral.specs.declared.section.Section.{Section}
-use Rattle.oc_neutral.specs.Building.{Draft}
-use Rattle.oc_shows.specs.Computed.{computed_symbol}
-use Rattle.oc_neutral.specs.Omf.Kinds.{omf_tag}
-use Rattle.oc_shows.specs.Started.{plain_draft, stored_section}
-use Rattle.oc_omf.specs.declared.structures.Segment.{Segment}
-use Rattle.oc_omf.specs.Entries.{Entry, entries_in}
-use Rattle.oc_omf.specs.Sections.{align_of, sections_in, segment_size}
-use Rattle.oc_omf.specs.Symbols.{symbols_in}
-use Rattle.oc_omf.specs.Tables.{Tables, tables_of}
+use Rattle.oc_neutral.specs.{declared.section.Section.{Section}, Building.{Draft}, Omf.Kinds.{omf_tag}}
+use Rattle.oc_shows.specs.{Computed.{computed_symbol}, Started.{plain_draft, stored_section}}
+use Rattle.oc_omf.specs.{declared.structures.Segment.{Segment}, Entries.{Entry, entries_in}, Sections.{align_of, sections_in, segment_size}}
+use Rattle.oc_omf.specs.{Symbols.{symbols_in}, Tables.{Tables, tables_of}}
 use Rattle.oc_omf_judge.specs.declared.defined.Defined.{Defined}
-use Rattle.oc_omf_read.specs.Contents.{stored, stored_size}
-use Rattle.oc_omf_read.specs.Sections.{kind_in, name_in}
+use Rattle.oc_omf_read.specs.{Contents.{stored, stored_size}, Sections.{kind_in, name_in}}
 
 -- the bytes are those of segment k, counted from 0
 abbrev pub AreBytesOf : Tables → ℕ → List ℕ → Type 0

@@ -1,6 +1,5 @@
 -- What an entry speaks of, by its type (TIS OMF 1.1, "Record Formats").
-use Rattle.std.specs.Prelude.{ℕ, if◌then◌else◌, Option, Some, None}
-use Rattle.std.specs.Option.{unwrap_or}
+use Rattle.std.specs.{Prelude.{ℕ, if◌then◌else◌, Option, Some, None}, Option.{unwrap_or}}
 use Rattle.oc_omf.specs.declared.constants.TheConstants.{EXTDEF, PUBDEF, LNAMES, SEGDEF, GRPDEF, FIXUPP, LEDATA, LIDATA, COMDEF, LEXTDEF, LPUBDEF}
 use Rattle.oc_omf.specs.Entries.{is_kind}
 use Rattle.oc_omf_read.specs.declared.class.EntryClass.{EntryClass}

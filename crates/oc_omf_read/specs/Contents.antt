@@ -1,17 +1,12 @@
 -- The bytes of segments, as data are laid over them (TIS OMF 1.1, "LEDATA" and "LIDATA"; our profile).
 use Rattle.std.specs.Prelude.{◌≡◌, ℕ, false, ◌+◌, ◌^◌, ◌<◌, ◌||◌, nat_eq, nat_le, nat_lt, if◌then◌else◌, List, [], ◌∷◌, ◌++◌, length, take, drop, replicate, slice_get, Some, Vec}
-use Rattle.std.specs.Global.{Global}
-use Rattle.std.specs.Option.{option_map_or}
+use Rattle.std.specs.{Global.{Global}, Option.{option_map_or}}
 use Rattle.oc_neutral.specs.Building.{is_zero}
 use Rattle.oc_omf_records.specs.Blocks.{Blocks, denotation, size_of}
-use Rattle.oc_omf.specs.declared.structures.Segment.{Segment}
-use Rattle.oc_omf.specs.Sections.{blocks_in, contents_of, segment_kind, segment_size}
+use Rattle.oc_omf.specs.{declared.structures.Segment.{Segment}, Sections.{blocks_in, contents_of, segment_kind, segment_size}, Tables.{Tables}}
 use Rattle.oc_omf.specs.Structures as structures
-use Rattle.oc_omf.specs.Tables.{Tables}
-use Rattle.oc_omf_read.specs.declared.pieces.Piece.{Piece}
+use Rattle.oc_omf_read.specs.{declared.pieces.Piece.{Piece}, Pieces.{row_in}, Sections.{kind_in}}
 use Rattle.oc_omf_judge.specs.declared.defined.Defined.{Defined}
-use Rattle.oc_omf_read.specs.Pieces.{row_in}
-use Rattle.oc_omf_read.specs.Sections.{kind_in}
 
 -- bytes with those that blocks stand for in their place, where these fit
 abbrev pub laid_by : ℕ → Blocks → List ℕ → List ℕ

@@ -1,14 +1,9 @@
 -- Declarations of symbols, one after the other, with what each says (TIS OMF 1.1, "EXTDEF", "LEXTDEF", "PUBDEF", "LPUBDEF" and "COMDEF"; our profile).
-use Rattle.std.specs.Prelude.{◌≡◌, ℕ, Bool, List, [], ◌++◌, map, flat_map, Ok, Err}
-use Rattle.std.specs.Option.{option_map_or}
-use Rattle.oc_omf.specs.declared.structures.PublicBase.{PublicBase}
-use Rattle.oc_omf.specs.declared.structures.Communal.{Communal}
-use Rattle.oc_omf.specs.Cursor.{Reading, Read, each_read}
-use Rattle.oc_omf.specs.Structures.{External, Public, base_read, public_read}
-use Rattle.oc_omf.specs.Entries.{Entry, all_read}
-use Rattle.oc_omf_read.specs.declared.declarations.DeclarationKind.{DeclarationKind}
+use Rattle.std.specs.{Prelude.{◌≡◌, ℕ, Bool, List, [], ◌++◌, map, flat_map, Ok, Err}, Option.{option_map_or}}
+use Rattle.oc_omf.specs.{declared.structures.PublicBase.{PublicBase}, declared.structures.Communal.{Communal}, Cursor.{Reading, Read, each_read}}
+use Rattle.oc_omf.specs.{Structures.{External, Public, base_read, public_read}, Entries.{Entry, all_read}}
+use Rattle.oc_omf_read.specs.{declared.declarations.DeclarationKind.{DeclarationKind}, declared.declarations.DeclarationRef.{DeclarationRef}}
 use Rattle.oc_omf_read.specs.declared.declarations.DeclarationKind.TheVariants as what
-use Rattle.oc_omf_read.specs.declared.declarations.DeclarationRef.{DeclarationRef}
 
 -- a declaration, with its name as bytes
 pub record Declaration : Type 0 where

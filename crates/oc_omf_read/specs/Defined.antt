@@ -1,8 +1,7 @@
 -- What the entries of a module define (TIS OMF 1.1, "Record Formats").
 use Rattle.std.specs.Prelude.{List, [], ◌∷◌, Ok, Err}
 use Rattle.oc_omf_records.specs.declared.records.Entry.{Entry as Record}
-use Rattle.oc_omf.specs.Cursor.{Reading}
-use Rattle.oc_omf.specs.Entries.{Entry, said_by}
+use Rattle.oc_omf.specs.{Cursor.{Reading}, Entries.{Entry, said_by}}
 
 -- what an entry gives
 abbrev pub said : Record → Entry

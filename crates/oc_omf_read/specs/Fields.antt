@@ -1,28 +1,15 @@
 -- The fields of fixups, one for each copy (TIS OMF 1.1, "FIXUPP" and "LIDATA"; our profile).
-use Rattle.std.specs.Prelude.{◌≡◌, ℕ, ◌+◌, ◌-◌, ◌≤◌, Bool, ◌&&◌, nat_eq, if◌then◌else◌, List, [], map, flat_map, take, Option, Some, None}
-use Rattle.std.specs.List.{list_any}
+use Rattle.std.specs.{Prelude.{◌≡◌, ℕ, ◌+◌, ◌-◌, ◌≤◌, Bool, ◌&&◌, nat_eq, if◌then◌else◌, List, [], map, flat_map, take, Option, Some, None}, List.{list_any}}
 use Rattle.std.specs.Option.{option_and_then, option_map, option_map_or, unwrap_or}
-use Rattle.oc_linking.specs.declared.terms.Keep.{Keep}
-use Rattle.oc_linking.specs.Numbers.{or_else}
+use Rattle.oc_linking.specs.{declared.terms.Keep.{Keep}, Numbers.{or_else}}
 use Rattle.oc_shows.specs.Built.{RelocMap}
 use Rattle.oc_omf_records.specs.Blocks.{Blocks, copies_of, size_of}
-use Rattle.oc_omf.specs.declared.structures.Fixup.{Fixup}
-use Rattle.oc_omf.specs.declared.structures.Method.{Method}
-use Rattle.oc_omf.specs.Entries.{Entry, entries_in}
-use Rattle.oc_omf.specs.Fixups.{Fixed, fixed_in, last_of, subrecords_upto}
-use Rattle.oc_omf.specs.Known.{AreInForce}
-use Rattle.oc_omf.specs.Sections.{blocks_in}
+use Rattle.oc_omf.specs.{declared.structures.Fixup.{Fixup}, declared.structures.Method.{Method}, Entries.{Entry, entries_in}}
+use Rattle.oc_omf.specs.{Fixups.{Fixed, fixed_in, last_of, subrecords_upto}, Known.{AreInForce}, Sections.{blocks_in}, Tables.{tables_of}, Targets.{Meaning}}
 use Rattle.oc_omf.specs.Structures as structures
-use Rattle.oc_omf.specs.Tables.{tables_of}
-use Rattle.oc_omf.specs.Targets.{Meaning}
-use Rattle.oc_omf_read.specs.declared.fields.Behind.{Behind}
-use Rattle.oc_omf_read.specs.declared.fields.FixupField.{FixupField}
-use Rattle.oc_omf_read.specs.declared.fix.Fix.{Fix}
-use Rattle.oc_omf_read.specs.declared.fixes.FixupContext.{FixupContext}
-use Rattle.oc_omf_read.specs.declared.pieces.Piece.{Piece}
-use Rattle.oc_omf_read.specs.declared.searched.Searched.{Searched}
-use Rattle.oc_omf_read.specs.Aims.{fix_for, fix_for_threads, meaning_seen, method_of_frame, method_of_target}
-use Rattle.oc_omf_read.specs.Given.{given_at}
+use Rattle.oc_omf_read.specs.{declared.fields.Behind.{Behind}, declared.fields.FixupField.{FixupField}, declared.fix.Fix.{Fix}}
+use Rattle.oc_omf_read.specs.{declared.fixes.FixupContext.{FixupContext}, declared.pieces.Piece.{Piece}, declared.searched.Searched.{Searched}}
+use Rattle.oc_omf_read.specs.{Aims.{fix_for, fix_for_threads, meaning_seen, method_of_frame, method_of_target}, Given.{given_at}}
 use Rattle.oc_omf_read.specs.Pieces.{ArePieces, IsPiece, row_in}
 
 -- the fields that a fixup makes of the copies in data at an offset of a section

@@ -3,8 +3,7 @@ use Rattle.std.specs.Prelude.{ℕ, ℤ, pos, ◌+ℤ◌}
 use Rattle.oc_linking.specs.declared.terms.Width.TheVariants.{Four}
 use Rattle.oc_algebra.specs.Fields.{extended}
 use Rattle.oc_neutral.specs.Omf.Relocs as relocs
-use Rattle.oc_omf_read.specs.declared.fix.Fix.{Fix}
-use Rattle.oc_omf_read.specs.declared.fix.FixupFrame.{FixupFrame}
+use Rattle.oc_omf_read.specs.{declared.fix.Fix.{Fix}, declared.fix.FixupFrame.{FixupFrame}}
 use Rattle.oc_omf_read.specs.declared.fix.FixupFrame.TheVariants as framed
 
 -- the frame by which the table of fixups has it

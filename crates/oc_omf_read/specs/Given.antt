@@ -2,24 +2,14 @@
 use Rattle.std.specs.Prelude.{ℕ, ◌-◌, Bool, true, nat_eq, find, if◌then◌else◌, List, slice_get, Option, Some, None}
 use Rattle.std.specs.Option.{option_and_then, option_map, option_map_or}
 use Rattle.oc_base.specs.declared.format.Word.TheVariants.{W32}
-use Rattle.oc_linking.specs.declared.terms.Keep.{Keep}
-use Rattle.oc_linking.specs.Keeping.{keeps}
+use Rattle.oc_linking.specs.{declared.terms.Keep.{Keep}, Keeping.{keeps}}
 use Rattle.oc_linking.specs.Parts as parts
 use Rattle.oc_linking.specs.Targets as file
-use Rattle.oc_shows.specs.Built.{RelocMap}
-use Rattle.oc_shows.specs.Computed.{position_of}
-use Rattle.oc_neutral.specs.declared.reloc.Reloc.{Reloc}
-use Rattle.oc_neutral.specs.declared.reloc.Target.{Target}
+use Rattle.oc_shows.specs.{Built.{RelocMap}, Computed.{position_of}, RowValues.{row_reloc}}
+use Rattle.oc_neutral.specs.{declared.reloc.Reloc.{Reloc}, declared.reloc.Target.{Target}, Rows.{Row}}
 use Rattle.oc_neutral.specs.declared.reloc.Target.TheVariants as target
-use Rattle.oc_neutral.specs.Rows.{Row}
-use Rattle.oc_shows.specs.RowValues.{row_reloc}
-use Rattle.oc_omf.specs.declared.structures.Method.{Method}
-use Rattle.oc_omf.specs.Entries.{Entry}
-use Rattle.oc_omf.specs.Fields.{added_at, fixups_in, relocates, row_of}
-use Rattle.oc_omf.specs.Fixups.{Fixed}
-use Rattle.oc_omf.specs.Sections.{sections_in}
-use Rattle.oc_omf.specs.Tables.{tables_of}
-use Rattle.oc_omf.specs.Targets.{Meaning, external_at, meaning_of, target_of}
+use Rattle.oc_omf.specs.{declared.structures.Method.{Method}, Entries.{Entry}, Fields.{added_at, fixups_in, relocates, row_of}, Fixups.{Fixed}}
+use Rattle.oc_omf.specs.{Sections.{sections_in}, Tables.{tables_of}, Targets.{Meaning, external_at, meaning_of, target_of}}
 
 -- what a relocation is against by the method of its fixup's target: a section, or the symbol of an external
 abbrev pub against : Meaning → Method → Option Target

@@ -1,17 +1,12 @@
 -- Symbols with what their mentions say, and their numbers by their names (TIS OMF 1.1; our profile).
-use Rattle.std.specs.Prelude.{◌≡◌, ℕ, Bool, List, [], ◌∷◌, map, fold, filter_map, if◌then◌else◌, Option, Some, None}
-use Rattle.std.specs.BTreeMap.{BTreeMap, get_by}
-use Rattle.std.specs.Cmp.Lexicographic.{slice_cmp}
-use Rattle.std.specs.List.{list_any}
-use Rattle.std.specs.Ordering.{nat_cmp}
+use Rattle.std.specs.{Prelude.{◌≡◌, ℕ, Bool, List, [], ◌∷◌, map, fold, filter_map, if◌then◌else◌, Option, Some, None}, BTreeMap.{BTreeMap, get_by}}
+use Rattle.std.specs.{Cmp.Lexicographic.{slice_cmp}, List.{list_any}, Ordering.{nat_cmp}}
 use denote.Ref.{Bor}
 use Rattle.oc_linking.specs.Numbers.{or_else}
 use Rattle.oc_omf.specs.Symbols.{Mention, number_of, same_symbol, with_new}
-use Rattle.oc_omf_read.specs.declared.declarations.DeclarationKind.{DeclarationKind}
+use Rattle.oc_omf_read.specs.{declared.declarations.DeclarationKind.{DeclarationKind}, declared.mentioned.Mentioned.{Mentioned}}
+use Rattle.oc_omf_read.specs.{declared.mentioned.Mentions.{Mentions}, Declarations.{Declaration}}
 use Rattle.oc_omf_read.specs.declared.declarations.DeclarationKind.TheVariants as what
-use Rattle.oc_omf_read.specs.declared.mentioned.Mentioned.{Mentioned}
-use Rattle.oc_omf_read.specs.declared.mentioned.Mentions.{Mentions}
-use Rattle.oc_omf_read.specs.Declarations.{Declaration}
 
 -- the symbol of a mention
 abbrev pub mention_of : Declaration → Mention

@@ -1,9 +1,7 @@
 -- Data of entries, and the segments that they cover (TIS OMF 1.1, "LEDATA" and "LIDATA"; our profile).
 use Rattle.std.specs.Prelude.{◌≡◌, List, [], ◌∷◌, Option, Some, None}
 use Rattle.oc_omf_records.specs.Blocks.{Blocks, none}
-use Rattle.oc_omf.specs.declared.data.Data.{Data}
-use Rattle.oc_omf.specs.Known.{row_of}
-use Rattle.oc_omf.specs.Sections.{blocks_in}
+use Rattle.oc_omf.specs.{declared.data.Data.{Data}, Known.{row_of}, Sections.{blocks_in}}
 use Rattle.oc_omf.specs.Structures as structures
 use Rattle.oc_omf_read.specs.declared.pieces.Piece.{Piece}
 

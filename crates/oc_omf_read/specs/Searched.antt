@@ -1,7 +1,5 @@
 -- Places of data in which nothing was found (our profile).
-use Rattle.std.specs.Prelude.{◌≡◌, ℕ, [], Some, IsSome}
-use Rattle.std.specs.BTreeMap.{BTreeMap, get}
-use Rattle.std.specs.Ordering.{nat_cmp}
+use Rattle.std.specs.{Prelude.{◌≡◌, ℕ, [], Some, IsSome}, BTreeMap.{BTreeMap, get}, Ordering.{nat_cmp}}
 use Rattle.oc_omf_records.specs.Blocks.{Blocks, copies_of}
 
 -- at each of these encoded places lie bytes that have no copy

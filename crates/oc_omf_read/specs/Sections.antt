@@ -1,11 +1,8 @@
 -- Segments as sections, by what is known of them (TIS OMF 1.1, "SEGDEF"; our profile).
-use Rattle.std.specs.Prelude.{ℕ, false, List, [], get_or, slice_get, Option}
-use Rattle.std.specs.Option.{option_map, unwrap_or}
+use Rattle.std.specs.{Prelude.{ℕ, false, List, [], get_or, slice_get, Option}, Option.{option_map, unwrap_or}}
 use Rattle.oc_linking.specs.declared.terms.Kind.{Kind}
 use Rattle.oc_neutral.specs.Omf.Kinds.{omf_kind}
-use Rattle.oc_omf.specs.declared.structures.Segment.{Segment}
-use Rattle.oc_omf.specs.Known.{names_of}
-use Rattle.oc_omf.specs.Tables.{indexed}
+use Rattle.oc_omf.specs.{declared.structures.Segment.{Segment}, Known.{names_of}, Tables.{indexed}}
 use Rattle.oc_omf_judge.specs.declared.defined.Defined.{Defined}
 
 -- the name of an index

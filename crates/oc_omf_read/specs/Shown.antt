@@ -1,16 +1,10 @@
 -- What a module shows (our profile).
 use Rattle.std.specs.Prelude.{ℕ, List, refl}
 use Rattle.oc_linking.specs.declared.terms.Keep.{Keep}
-use Rattle.oc_neutral.specs.Building.{Draft}
-use Rattle.oc_shows.specs.Built.{HasAdded, IsStarted}
-use Rattle.oc_neutral.specs.Invariants.{IsDraft}
-use Rattle.oc_shows.specs.Readable.{IsReadable}
-use Rattle.oc_shows.specs.Shows.{Shows}
-use Rattle.oc_neutral.specs.Dialects.{IsDialect}
-use Rattle.oc_omf.specs.Entries.{entries_in}
-use Rattle.oc_omf.specs.Rules.{omf_dialect}
-use Rattle.oc_omf_read.specs.Built.{started}
-use Rattle.oc_omf_read.specs.Given.{given_at}
+use Rattle.oc_neutral.specs.{Building.{Draft}, Invariants.{IsDraft}, Dialects.{IsDialect}}
+use Rattle.oc_shows.specs.{Built.{HasAdded, IsStarted}, Readable.{IsReadable}, Shows.{Shows}}
+use Rattle.oc_omf.specs.{Entries.{entries_in}, Rules.{omf_dialect}}
+use Rattle.oc_omf_read.specs.{Built.{started}, Given.{given_at}}
 
 -- a module shows what is built of its sections and symbols, with the relocations of its fixups
 abbrev pub CleanIsShown : Type 0

@@ -1,10 +1,8 @@
 -- The copies of content bytes are copies.
 use Rattle.std.proofs.Common.{◌≡◌, ℕ, zero, suc, ◌+◌, ◌-◌, ◌*◌, ◌<◌, ◌≤◌, Bool, true, false, ◌&&◌, nat_lt, nat_eq, nat_le, List, [], ◌∷◌, ◌++◌, length, get_or, take, drop, slice_range, All, refl, sym, ◌∙◌, ap, subst, arith, length-append, Option, Some, None, Ok, Err}
 use Rattle.std.specs.Option.{option_map}
-use Rattle.std.proofs.lemmas.Bool.Decides.{nat_tests}
-use Rattle.std.proofs.lemmas.List.{get_or_append_left, get_or-append-add, get_or-take, get_or-drop, length-take-le, length-drop}
-use Rattle.std.proofs.lemmas.List.Elements.{All-nil, All-cons, All-head, All-tail, All-append, All-map, All-weaker}
-use Rattle.std.proofs.lemmas.List.Kept.{AllPairs-cons}
+use Rattle.std.proofs.lemmas.{Bool.Decides.{nat_tests}, List.{get_or_append_left, get_or-append-add, get_or-take, get_or-drop, length-take-le, length-drop}}
+use Rattle.std.proofs.lemmas.{List.Elements.{All-nil, All-cons, All-head, All-tail, All-append, All-map, All-weaker}, List.Kept.{AllPairs-cons}}
 use Rattle.oc_omf_records.specs.Blocks.{Blocks, none, content, nested, append, repeated, denotation, size_of, moved, in_each, in_content, found, copies_of}
 use Rattle.oc_omf_records.specs.BlockReading.{Reading, in_front, followed, row_at, repeats_row, content_at, after_content, after_counts, block_count, repeat_count, block_at, rest_at, blocks_of}
 use Rattle.oc_omf_records.specs.Copies.{IsCopy, AreApart, CopiesAreCopies}

@@ -1,10 +1,8 @@
 -- Where the copies of content bytes stand.
 use Rattle.std.proofs.Common.{◌≡◌, ℕ, zero, suc, ◌+◌, ◌-◌, ◌*◌, ◌<◌, Bool, true, false, ◌&&◌, nat_lt, nat_le, List, [], ◌∷◌, length, All, refl, sym, ◌∙◌, ap, arith, Option, Some, None}
 use Rattle.std.specs.Option.{option_map}
-use Rattle.std.proofs.lemmas.Bool.Decides.{nat_tests}
-use Rattle.std.proofs.lemmas.List.Elements.{All-nil, All-cons, All-append, All-map, All-weaker}
-use Rattle.oc_omf_records.specs.Blocks.{Blocks, none, content, nested, append, size_of, moved, in_each, in_content, found, copies_of}
-use Rattle.oc_omf_records.specs.Seeking.{kept}
+use Rattle.std.proofs.lemmas.{Bool.Decides.{nat_tests}, List.Elements.{All-nil, All-cons, All-append, All-map, All-weaker}}
+use Rattle.oc_omf_records.specs.{Blocks.{Blocks, none, content, nested, append, size_of, moved, in_each, in_content, found, copies_of}, Seeking.{kept}}
 
 -- moved by nothing
 pub moved-nothing : (places : List ℕ) → moved 0 places ≡ places

@@ -1,15 +1,10 @@
 -- Reading blocks one after another.
 use Rattle.std.proofs.Common.{◌≡◌, ◌≢◌, ℕ, zero, suc, ◌+◌, ◌-◌, ◌<◌, ◌≤◌, Bool, true, false, nat_eq, nat_lt, nat_le, List, [], ◌∷◌, ◌++◌, length, refl, sym, ◌∙◌, ap, subst, arith, length-append, Result, Ok, Err}
 use Rattle.std.proofs.lemmas.Bool.Decides.{nat_tests}
-use Rattle.oc_omf_records.specs.declared.faults.BlockFault.{BlockFault}
-use Rattle.oc_omf_records.specs.declared.faults.BlockFault.TheVariants.{BadBlock, TooDeep, NoMemory}
-use Rattle.oc_omf_records.specs.declared.iterated.Iterated.{Iterated}
-use Rattle.oc_omf_records.specs.declared.reading.Counts.{Counts}
-use Rattle.oc_omf_records.specs.Blocks.{Blocks, none, append}
+use Rattle.oc_omf_records.specs.{declared.faults.BlockFault.{BlockFault}, declared.faults.BlockFault.TheVariants.{BadBlock, TooDeep, NoMemory}}
+use Rattle.oc_omf_records.specs.{declared.iterated.Iterated.{Iterated}, declared.reading.Counts.{Counts}, Blocks.{Blocks, none, append}}
 use Rattle.oc_omf_records.specs.BlockReading.{Reading, in_front, row_at, repeats_row, content_at, after_counts, block_count, block_at, rest_at, blocks_of}
-use Rattle.oc_omf_records.specs.Counts.{counts_at}
-use Rattle.oc_omf_records.specs.Refusals.{Refuses}
-use Rattle.oc_omf_records.specs.Rows.{row_of, rows_of}
+use Rattle.oc_omf_records.specs.{Counts.{counts_at}, Refusals.{Refuses}, Rows.{row_of, rows_of}}
 use Rattle.oc_omf_records.proofs.RowLemmas.{append-none, append-append, rows_of-push}
 
 -- a refusal of a part is one of the whole

@@ -2,8 +2,7 @@
 use Rattle.std.proofs.Common.{◌≡◌, ℕ, zero, suc, ◌+◌, ◌-◌, ◌^◌, ◌<◌, ◌≤◌, min, Vec, Global, List, [], ◌∷◌, ◌++◌, length, get_or, take, refl, sym, ◌∙◌, ap, arith, length-append, drop, slice_range}
 use Rattle.std.proofs.lemmas.List.{take_more, append-nil, append_assoc, length-take-le, length-drop}
 use Rattle.std.proofs.Math.Seq.{drop-append_seam, take-append_seam, take-length, drop-length}
-use Rattle.oc_omf_records.specs.declared.iterated.Iterated.{Iterated, Nested}
-use Rattle.oc_omf_records.specs.Blocks.{Blocks, none, content, nested, append, repeated, denotation, size_of}
+use Rattle.oc_omf_records.specs.{declared.iterated.Iterated.{Iterated, Nested}, Blocks.{Blocks, none, content, nested, append, repeated, denotation, size_of}}
 use Rattle.oc_omf_records.specs.Rows.{row_of, rows_of}
 use Rattle.oc_omf_records.proofs.SizedLemmas.{row_of-Nested}
 

@@ -1,12 +1,9 @@
 -- What a walk over blocks finds.
 use Rattle.std.proofs.Common.{◌≡◌, ℕ, zero, suc, ◌+◌, ◌*◌, ◌^◌, ◌<◌, ◌≤◌, min, Bool, true, false, ◌&&◌, nat_lt, IsTrue, List, [], ◌∷◌, length, get_or, take, Vec, Global, All, refl, sym, ◌∙◌, ap, subst, arith, Option, Some, None}
 use Rattle.std.specs.Option.{option_map}
-use Rattle.std.proofs.lemmas.Bool.Decides.{nat_tests}
-use Rattle.std.proofs.lemmas.List.Elements.{All-nil, All-weaker}
-use Rattle.oc_omf_records.specs.declared.iterated.Iterated.{Iterated}
-use Rattle.oc_omf_records.specs.declared.seeking.Sought.TheVariants.{Found, Beyond}
-use Rattle.oc_omf_records.specs.Blocks.{Blocks, none, content, nested, append, size_of, moved, in_each, in_content, found, copies_of}
-use Rattle.oc_omf_records.specs.Rows.{row_of, rows_of}
+use Rattle.std.proofs.lemmas.{Bool.Decides.{nat_tests}, List.Elements.{All-nil, All-weaker}}
+use Rattle.oc_omf_records.specs.{declared.iterated.Iterated.{Iterated}, declared.seeking.Sought.TheVariants.{Found, Beyond}}
+use Rattle.oc_omf_records.specs.{Blocks.{Blocks, none, content, nested, append, size_of, moved, in_each, in_content, found, copies_of}, Rows.{row_of, rows_of}}
 use Rattle.oc_omf_records.specs.Seeking.{Finds, kept, FitIn}
 use Rattle.oc_omf_records.proofs.RowLemmas.{append-append, size_of-append, size_of-take_more, rows_of-take_more}
 use Rattle.oc_omf_records.proofs.CopyLemmas.{moved-nothing, in_each-nothing, found-last, copies_of-append, copies_of-within, IsWithin, kept-in_each, kept-repeated}

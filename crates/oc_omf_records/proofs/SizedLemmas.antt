@@ -2,8 +2,7 @@
 use Rattle.std.proofs.Common.{rules, ◌≡◌, ℕ, zero, suc, ◌<◌, ◌^◌, ◌&&◌, min, nat_eq, Bool, true, Vec, Global, List, [], ◌∷◌, ◌++◌, length, get_or, map, refl, sym, ◌∙◌, ap, arith}
 use Rattle.std.specs.List.{list_all}
 use Rattle.std.proofs.lemmas.Bool.Decides.{nat_tests}
-use Rattle.oc_omf_records.specs.declared.iterated.Iterated.{Iterated, Content, Nested, the_lemmas}
-use Rattle.oc_omf_records.specs.Blocks.{Blocks, none, content, nested, size_of}
+use Rattle.oc_omf_records.specs.{declared.iterated.Iterated.{Iterated, Content, Nested, the_lemmas}, Blocks.{Blocks, none, content, nested, size_of}}
 use Rattle.oc_omf_records.specs.Rows.{joined, inside, judged, row_of, rows_of, is_sized, are_sized}
 
 -- what is judged of blocks in a block

@@ -1,12 +1,8 @@
 -- The definitions, computed on bytes that were put together by hand from the standard.
 use Rattle.std.proofs.Common.{◌≡◌, ℕ, List, [], ◌∷◌, take, Some, None, Ok, Err, refl, true}
-use Rattle.oc_omf_records.specs.declared.faults.BlockFault.TheVariants.{BadBlock}
-use Rattle.oc_omf_records.specs.declared.records.RecordFault.TheVariants.{Truncated, BadChecksum}
-use Rattle.oc_omf_records.specs.Entries.{Reached}
-use Rattle.oc_omf_records.specs.NextEntry.{next_entry, after_next}
-use Rattle.oc_omf_records.specs.Indexes.{index_at}
-use Rattle.oc_omf_records.specs.Blocks.{Blocks, none, content, nested, denotation, size_of, copies_of}
-use Rattle.oc_omf_records.specs.BlockReading.{blocks_of}
+use Rattle.oc_omf_records.specs.{declared.faults.BlockFault.TheVariants.{BadBlock}, declared.records.RecordFault.TheVariants.{Truncated, BadChecksum}}
+use Rattle.oc_omf_records.specs.{Entries.{Reached}, NextEntry.{next_entry, after_next}, Indexes.{index_at}}
+use Rattle.oc_omf_records.specs.{Blocks.{Blocks, none, content, nested, denotation, size_of, copies_of}, BlockReading.{blocks_of}}
 use Rattle.oc_omf_records.specs.Encoding.{encoded, levels_of}
 
 -- a module named `a`: THEADR with this checksum, and MODEND

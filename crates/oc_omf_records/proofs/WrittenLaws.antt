@@ -1,12 +1,10 @@
 -- What was written is read.
 use Rattle.std.proofs.Common.{◌≡◌, ℕ, zero, suc, ◌+◌, ◌-◌, ◌^◌, ◌<◌, ◌≤◌, Bool, true, false, nat_lt, nat_eq, nat_le, List, [], ◌∷◌, ◌++◌, length, get_or, take, drop, slice_range, refl, sym, ◌∙◌, ap, arith, length-append, Ok, Err}
-use Rattle.std.proofs.lemmas.Bool.Decides.{nat_tests}
-use Rattle.std.proofs.lemmas.List.{append_assoc, append-nil, get_or-append-add}
+use Rattle.std.proofs.lemmas.{Bool.Decides.{nat_tests}, List.{append_assoc, append-nil, get_or-append-add}}
 use Rattle.std.proofs.Math.Seq.{drop-append_seam, take-append_seam}
 use Rattle.oc_base.specs.Numbers.{number_at, bytes_of_number}
 use Rattle.oc_base.proofs.NumberLaws.{length-bytes_of_number, number_at-shift, number_at-bytes}
-use Rattle.oc_omf_records.specs.declared.faults.BlockFault.TheVariants.{BadBlock}
-use Rattle.oc_omf_records.specs.Blocks.{Blocks, none, content, nested, append}
+use Rattle.oc_omf_records.specs.{declared.faults.BlockFault.TheVariants.{BadBlock}, Blocks.{Blocks, none, content, nested, append}}
 use Rattle.oc_omf_records.specs.BlockReading.{Reading, row_at, count_size, after_content, after_counts, block_count, repeat_count, block_at, rest_at}
 use Rattle.oc_omf_records.specs.Encoding.{row_length, levels_of, encoded, CanBeWritten, WrittenIsRead}
 use Rattle.oc_omf_records.proofs.ReadingLemmas.{blocks_of-ok}

@@ -2,8 +2,7 @@
 -- of two bytes, and then a length byte with that many bytes where the block count is 0, else that many blocks.
 use Rattle.std.specs.Prelude.{ℕ, zero, suc, ◌+◌, Bool, not, ◌&&◌, nat_eq, nat_lt, nat_le, if◌then◌else◌, List, length, slice_range, Result, Ok, Err}
 use Rattle.oc_base.specs.Numbers.{number_at}
-use Rattle.oc_omf_records.specs.declared.faults.BlockFault.{BlockFault}
-use Rattle.oc_omf_records.specs.declared.faults.BlockFault.TheVariants.{BadBlock, TooDeep}
+use Rattle.oc_omf_records.specs.{declared.faults.BlockFault.{BlockFault}, declared.faults.BlockFault.TheVariants.{BadBlock, TooDeep}}
 use Rattle.oc_omf_records.specs.Blocks.{Blocks, none, content, nested, append}
 
 -- the blocks that are read and the place after them, or what is met first that is at fault

@@ -1,8 +1,6 @@
 -- What a copy of content bytes is (TIS OMF 1.1, "LIDATA: Logical Iterated Data Record").
-use Rattle.std.specs.Prelude.{ℕ, ◌≡◌, ◌+◌, ◌<◌, ◌≤◌, Bool, List, length, slice_index, All, Some, Ok}
-use Rattle.std.specs.List.{AllPairs}
-use Rattle.oc_omf_records.specs.Blocks.{Blocks, denotation, size_of, copies_of}
-use Rattle.oc_omf_records.specs.BlockReading.{blocks_of}
+use Rattle.std.specs.{Prelude.{ℕ, ◌≡◌, ◌+◌, ◌<◌, ◌≤◌, Bool, List, length, slice_index, All, Some, Ok}, List.{AllPairs}}
+use Rattle.oc_omf_records.specs.{Blocks.{Blocks, denotation, size_of, copies_of}, BlockReading.{blocks_of}}
 
 -- the four bytes at a place of some bytes are those at a place of the encoded ones
 pub record IsCopy (b : List ℕ) (at : ℕ) (bytes : List ℕ) (place : ℕ) : Type 0 where

@@ -1,7 +1,6 @@
 -- The counts at the start of a block (TIS OMF 1.1, "LIDATA: Logical Iterated Data Record").
 use Rattle.std.specs.Prelude.{ℕ, Bool, List}
-use Rattle.oc_omf_records.specs.declared.reading.Counts.{Counts}
-use Rattle.oc_omf_records.specs.BlockReading.{repeat_count, block_count, after_counts}
+use Rattle.oc_omf_records.specs.{declared.reading.Counts.{Counts}, BlockReading.{repeat_count, block_count, after_counts}}
 
 -- the counts of the block at a place, and the place after them
 abbrev pub counts_at : Bool → List ℕ → ℕ → Counts

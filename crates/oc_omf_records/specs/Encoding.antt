@@ -1,8 +1,7 @@
 -- Iterated data as they are written (TIS OMF 1.1, "LIDATA: Logical Iterated Data Record").
 use Rattle.std.specs.Prelude.{ℕ, ◌≡◌, ◌+◌, ◌^◌, ◌<◌, ◌≤◌, max, Bool, List, [], ◌∷◌, ◌++◌, length, All, Ok}
 use Rattle.oc_base.specs.Numbers.{bytes_of_number}
-use Rattle.oc_omf_records.specs.Blocks.{Blocks, none, content, nested}
-use Rattle.oc_omf_records.specs.BlockReading.{count_size, most_levels, blocks_of}
+use Rattle.oc_omf_records.specs.{Blocks.{Blocks, none, content, nested}, BlockReading.{count_size, most_levels, blocks_of}}
 
 -- how many blocks are in a row
 abbrev pub row_length : Blocks → ℕ

@@ -1,10 +1,8 @@
 -- The entry at a place of a module (TIS OMF 1.1, "Record Format"): a type byte, a length of two bytes, that many bytes.
 use Rattle.std.specs.Prelude.{ℕ, ◌+◌, ◌-◌, ◌%◌, Bool, not, ◌&&◌, ◌||◌, nat_eq, nat_lt, nat_le, if◌then◌else◌, List, length, sum, slice_index, slice_range, Option, Some, None, Result, Ok, Err}
 use Rattle.oc_base.specs.Numbers.{number_at}
-use Rattle.oc_omf_records.specs.declared.records.Entry.{Entry}
-use Rattle.oc_omf_records.specs.declared.records.RecordFault.{RecordFault}
-use Rattle.oc_omf_records.specs.declared.records.RecordFault.TheVariants.{Truncated, BadChecksum}
-use Rattle.oc_omf_records.specs.Entries.{Reached}
+use Rattle.oc_omf_records.specs.{declared.records.Entry.{Entry}, declared.records.RecordFault.{RecordFault}}
+use Rattle.oc_omf_records.specs.{declared.records.RecordFault.TheVariants.{Truncated, BadChecksum}, Entries.{Reached}}
 
 -- the length field: how many bytes follow it, the checksum among them
 abbrev pub length_field : List ℕ → ℕ → ℕ

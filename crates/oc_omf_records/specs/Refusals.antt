@@ -1,7 +1,6 @@
 -- Refusals of iterated data (our profile); lack of memory may come anywhere.
 use Rattle.std.specs.Prelude.{ℕ, ◌≡◌, List, Option, None, Result, Err}
-use Rattle.oc_omf_records.specs.declared.faults.BlockFault.{BlockFault}
-use Rattle.oc_omf_records.specs.declared.faults.BlockFault.TheVariants.{BadBlock, TooDeep, NoMemory}
+use Rattle.oc_omf_records.specs.{declared.faults.BlockFault.{BlockFault}, declared.faults.BlockFault.TheVariants.{BadBlock, TooDeep, NoMemory}}
 use Rattle.oc_omf_records.specs.declared.faults.CopyFault.{CopyFault}
 use Rattle.oc_omf_records.specs.declared.faults.CopyFault.TheVariants as copy
 

@@ -1,10 +1,7 @@
 -- The program's tree of blocks as a row (TIS OMF 1.1, "LIDATA: Logical Iterated Data Record").
-use Rattle.std.specs.Prelude.{◌^◌, ◌&&◌, Bool, true, nat_eq, min, List, [], ◌∷◌, map}
-use Rattle.std.specs.List.{list_all}
-use Rattle.oc_omf_records.specs.declared.iterated.Iterated.{Iterated}
-use Rattle.oc_omf_records.specs.declared.iterated.Iterated.TheOpen.{Iterated-F, Content, Nested}
-use Rattle.oc_omf_records.specs.declared.iterated.Iterated.TheFolds.{fold-Iterated}
-use Rattle.oc_omf_records.specs.Blocks.{Blocks, none, content, nested, append, size_of}
+use Rattle.std.specs.{Prelude.{◌^◌, ◌&&◌, Bool, true, nat_eq, min, List, [], ◌∷◌, map}, List.{list_all}}
+use Rattle.oc_omf_records.specs.{declared.iterated.Iterated.{Iterated}, declared.iterated.Iterated.TheOpen.{Iterated-F, Content, Nested}}
+use Rattle.oc_omf_records.specs.{declared.iterated.Iterated.TheFolds.{fold-Iterated}, Blocks.{Blocks, none, content, nested, append, size_of}}
 
 -- rows, one after another
 abbrev pub joined : List Blocks → Blocks

@@ -1,10 +1,6 @@
 -- What a walk over blocks finds of the copies of four content bytes (TIS OMF 1.1, "LIDATA: Logical Iterated Data Record").
-use Rattle.std.specs.Prelude.{ℕ, ◌≡◌, ◌<◌, ◌*◌, ◌^◌, min, Bool, true, false, List, [], All, Option, Some, None, Vec}
-use Rattle.std.specs.Global.{Global}
-use Rattle.std.specs.Option.{option_map}
-use Rattle.oc_omf_records.specs.declared.seeking.Sought.{Sought}
-use Rattle.oc_omf_records.specs.declared.seeking.Sought.TheVariants.{Found, Beyond}
-use Rattle.oc_omf_records.specs.Blocks.{Blocks, size_of, copies_of}
+use Rattle.std.specs.{Prelude.{ℕ, ◌≡◌, ◌<◌, ◌*◌, ◌^◌, min, Bool, true, false, List, [], All, Option, Some, None, Vec}, Global.{Global}, Option.{option_map}}
+use Rattle.oc_omf_records.specs.{declared.seeking.Sought.{Sought}, declared.seeking.Sought.TheVariants.{Found, Beyond}, Blocks.{Blocks, size_of, copies_of}}
 
 -- the list of places, if there is one
 abbrev pub places_in : Option (Vec ℕ Global) → Option (List ℕ)

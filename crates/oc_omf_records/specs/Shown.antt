@@ -1,7 +1,5 @@
 -- What contracts see of iterated data that were read (TIS OMF 1.1, "LIDATA: Logical Iterated Data Record").
-use Rattle.oc_omf_records.specs.declared.block.Block.{Block}
-use Rattle.oc_omf_records.specs.Blocks.{Blocks}
-use Rattle.oc_omf_records.specs.Rows.{rows_of}
+use Rattle.oc_omf_records.specs.{declared.block.Block.{Block}, Blocks.{Blocks}, Rows.{rows_of}}
 
 -- the tree of the blocks
 abbrev pub shown : Block → Blocks

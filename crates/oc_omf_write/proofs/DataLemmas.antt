@@ -1,15 +1,11 @@
 -- The entries of the bytes of the sections, one section after another.
 use Rattle.std.proofs.Common.{◌≡◌, ℕ, ◌+◌, ◌<◌, ◌≤◌, List, [], ◌++◌, length, drop, map, get_or, Vec, Global, Some, ap}
-use Rattle.std.specs.Prelude.{slice_get, flat_map}
-use Rattle.std.specs.List.{enumerate_from}
-use Rattle.std.proofs.lemmas.List.{drop_all}
-use Rattle.std.proofs.lemmas.Option.{slice_get-get_or, get_or_from_slice_get}
+use Rattle.std.specs.{Prelude.{slice_get, flat_map}, List.{enumerate_from}}
+use Rattle.std.proofs.lemmas.{List.{drop_all}, Option.{slice_get-get_or, get_or_from_slice_get}}
 use Rattle.oc_shelf.proofs.WritingLaws.MemberLemmas.{member_map}
 use Rattle.oc_target.proofs.Giving.{more_given, all_given}
 use Rattle.oc_neutral.specs.declared.section.Section.{Section}
-use Rattle.oc_omf_write.specs.declared.entries.Entry.{Entry}
-use Rattle.oc_omf_write.specs.declared.fixups.Fixup.{Fixup}
-use Rattle.oc_omf_write.specs.Pieces.{section_entries, fixups_at}
+use Rattle.oc_omf_write.specs.{declared.entries.Entry.{Entry}, declared.fixups.Fixup.{Fixup}, Pieces.{section_entries, fixups_at}}
 use Rattle.oc_neutral.proofs.FieldLists.{drop_here}
 
 -- the fixups of the section at a position

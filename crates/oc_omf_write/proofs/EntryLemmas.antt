@@ -1,49 +1,26 @@
 -- Each entry of a plan can be put, and has the bytes of the canonical file.
 use Rattle.std.proofs.Common.{◌≡◌, ℕ, suc, ◌+◌, ◌^◌, ◌<◌, ◌≤◌, Bool, true, false, cond, nat_eq, List, [], ◌∷◌, length, map, take, Some, refl, sym, ◌∙◌, ap, subst, arith, Vec, Global}
-use Rattle.std.specs.Prelude.{slice_get, slice_range, flat_map, bytes_eq}
-use Rattle.std.specs.List.{AllByRecursion, position_or_len}
-use Rattle.std.specs.Option.{option_map_or}
-use Rattle.std.proofs.lemmas.List.{length-map}
-use Rattle.std.proofs.lemmas.Option.{slice_get_within}
-use Rattle.oc_chains.specs.declared.field.Field.{Field}
-use Rattle.oc_chains.specs.Fields.{FollowFrom, end_of}
-use Rattle.oc_chains.specs.Lists.{list_of}
+use Rattle.std.specs.{Prelude.{slice_get, slice_range, flat_map, bytes_eq}, List.{AllByRecursion, position_or_len}, Option.{option_map_or}}
+use Rattle.std.proofs.lemmas.{List.{length-map}, Option.{slice_get_within}}
+use Rattle.oc_chains.specs.{declared.field.Field.{Field}, Fields.{FollowFrom, end_of}, Lists.{list_of}}
 use Rattle.oc_linking.specs.Parts.{is_local}
-use Rattle.oc_neutral.specs.declared.section.Section.{Section}
-use Rattle.oc_neutral.specs.declared.symbol.Symbol.{Symbol}
-use Rattle.oc_neutral.specs.declared.reloc.Reloc.{Reloc}
-use Rattle.oc_neutral.specs.declared.reloc.Target.{Target}
+use Rattle.oc_neutral.specs.{declared.section.Section.{Section}, declared.symbol.Symbol.{Symbol}, declared.reloc.Reloc.{Reloc}, declared.reloc.Target.{Target}}
+use Rattle.oc_neutral.specs.{Constants.{IsWide, with_contents}, Objects.{Object}}
 use Rattle.oc_neutral.specs.declared.reloc.Target.TheVariants as target
-use Rattle.oc_neutral.specs.Constants.{IsWide, with_contents}
-use Rattle.oc_neutral.proofs.ConstantObject.{within}
-use Rattle.oc_neutral.proofs.Positions.{each_at}
-use Rattle.oc_neutral.specs.Objects.{Object}
+use Rattle.oc_neutral.proofs.{ConstantObject.{within}, Positions.{each_at}}
 use Rattle.oc_shelf.proofs.WritingLaws.MemberLemmas.{member_map}
-use Rattle.oc_omf.specs.declared.structures.Method.{Method}
-use Rattle.oc_omf_file.specs.Canonical.{segment_of, size_by, output_contents}
-use Rattle.oc_omf_file.specs.Fixups.{raw_of, written_reloc}
-use Rattle.oc_omf_file.specs.Names.{class_of}
-use Rattle.oc_omf_file.specs.Outputs.{Output, outputs_of}
-use Rattle.oc_omf_file.specs.Outputs as output
+use Rattle.oc_omf.specs.{declared.structures.Method.{Method}, Bytes.{segment_bytes, external_bytes, communal_bytes, data_bytes}}
+use Rattle.oc_omf_file.specs.{Canonical.{segment_of, size_by, output_contents}, Fixups.{raw_of, written_reloc}, Names.{class_of}, Outputs.{Output, outputs_of}}
 use Rattle.oc_omf_file.specs.Pieces.{fields_between}
-use Rattle.oc_omf.specs.Bytes.{segment_bytes, external_bytes, communal_bytes, data_bytes}
-use Rattle.oc_omf_file.proofs.BehindLaws.{IsDataAt, Behind}
-use Rattle.oc_omf_file.proofs.CodedLaws.{IsForOmf, field_is, inside, width_is}
-use Rattle.oc_omf_file.proofs.MadeLaw.{Fits}
+use Rattle.oc_omf_file.specs.Outputs as output
+use Rattle.oc_omf_file.proofs.{BehindLaws.{IsDataAt, Behind}, CodedLaws.{IsForOmf, field_is, inside, width_is}, MadeLaw.{Fits}}
 use Rattle.oc_omf_file.proofs.SmallLaws.{between, segment_there, length-raw, behind, all_small}
-use Rattle.oc_omf_write.specs.declared.fixups.Fixup.{Fixup}
-use Rattle.oc_omf_write.specs.declared.tables.Tables.{Tables}
-use Rattle.oc_omf_write.specs.Entries.{entry_for}
-use Rattle.oc_omf_write.specs.Names.{segment_in}
-use Rattle.oc_omf_write.specs.Made.{IsMade}
-use Rattle.oc_omf_write.specs.Pieces.{FollowWithin, fixups_at}
-use Rattle.oc_omf_write.proofs.PieceLemmas.{few_between, follow_from}
-use Rattle.oc_omf_write.specs.Raws.{sections_in}
-use Rattle.oc_omf_write.specs.Tables.{fixups_of, public_by, contents_by, CanPut}
+use Rattle.oc_omf_write.specs.{declared.fixups.Fixup.{Fixup}, declared.tables.Tables.{Tables}, Entries.{entry_for}, Names.{segment_in}, Made.{IsMade}}
+use Rattle.oc_omf_write.specs.{Pieces.{FollowWithin, fixups_at}, Raws.{sections_in}, Tables.{fixups_of, public_by, contents_by, CanPut}}
 use Rattle.oc_omf_write.specs.Written.{fixup_bytes_of, IsSmallFixup, fixup_with}
-use Rattle.oc_omf_write.specs.Written as written
-use Rattle.oc_omf_write.proofs.FixupLemmas.{has_index}
+use Rattle.oc_omf_write.proofs.{PieceLemmas.{few_between, follow_from}, FixupLemmas.{has_index}}
 use Rattle.oc_omf_write.proofs.PlannedLemmas.{names_same, section_is, between_fields, fixup_is, fixups_are, fixups_counted, fixups_there, method_is}
+use Rattle.oc_omf_write.specs.Written as written
 
 -- an entry that can be put, with the bytes of an output
 abbrev pub IsPut : Object → Tables → Output → Type 0

@@ -1,17 +1,11 @@
 -- Names that fill one entry after another.
 use Rattle.std.proofs.Common.{◌≡◌, ℕ, zero, suc, ◌+◌, ◌-◌, ◌<◌, ◌≤◌, true, false, cond, nat_lt, List, [], ◌∷◌, ◌++◌, length, take, drop, map, Some, sym, ◌∙◌, ap, arith, append_assoc}
-use Rattle.std.specs.Prelude.{slice_get, slice_range}
-use Rattle.std.specs.List.{AllByRecursion}
-use Rattle.std.proofs.lemmas.Bool.Decides.{nat_tests}
-use Rattle.std.proofs.lemmas.List.{drop_all}
-use Rattle.std.proofs.lemmas.List.Sums.{sum_by-append}
-use Rattle.std.proofs.lemmas.Option.{none-some, same_Some, slice_get_within}
-use Rattle.oc_neutral.proofs.Positions.{each_at}
-use Rattle.oc_neutral.proofs.FieldLists.{drop_here}
+use Rattle.std.specs.{Prelude.{slice_get, slice_range}, List.{AllByRecursion}}
+use Rattle.std.proofs.lemmas.{Bool.Decides.{nat_tests}, List.{drop_all}, List.Sums.{sum_by-append}, Option.{none-some, same_Some, slice_get_within}}
+use Rattle.oc_neutral.proofs.{Positions.{each_at}, FieldLists.{drop_here}}
 use Rattle.oc_omf_file.specs.Names.{names_size, filled_from}
 use Rattle.oc_omf_file.proofs.ListLemmas.{all_both}
-use Rattle.oc_omf_write.specs.declared.entries.Entry.{Entry}
-use Rattle.oc_omf_write.specs.Names.{names_entry, texts_in, IsRange, AreAdded, AreShort}
+use Rattle.oc_omf_write.specs.{declared.entries.Entry.{Entry}, Names.{names_entry, texts_in, IsRange, AreAdded, AreShort}}
 use Rattle.oc_plans.proofs.Turns.{map_append}
 
 -- ... ranges

@@ -1,37 +1,20 @@
 -- A plan of an object is its canonical file.
 use Rattle.std.proofs.Common.{◌≡◌, ℕ, zero, suc, ◌+◌, ◌≤◌, Bool, true, false, true≢false, cond, nat_eq, List, [], ◌∷◌, ◌++◌, length, map, Some, refl, sym, ◌∙◌, ap, subst, arith}
-use Rattle.std.specs.Prelude.{slice_get, flat_map}
-use Rattle.std.specs.List.{AllByRecursion, enumerate_from, range_with_len}
-use Rattle.std.proofs.lemmas.List.{length-map}
-use Rattle.std.proofs.lemmas.List.FromFn.{length-enumerate_from}
-use Rattle.std.proofs.lemmas.Option.{none-some, same_Some}
-use Rattle.oc_neutral.specs.declared.section.Section.{Section}
-use Rattle.oc_neutral.specs.Objects.{Object}
+use Rattle.std.specs.{Prelude.{slice_get, flat_map}, List.{AllByRecursion, enumerate_from, range_with_len}}
+use Rattle.std.proofs.lemmas.{List.{length-map}, List.FromFn.{length-enumerate_from}, Option.{none-some, same_Some}}
+use Rattle.oc_neutral.specs.{declared.section.Section.{Section}, Objects.{Object}}
 use Rattle.oc_shelf.proofs.WritingLaws.MemberLemmas.{member_second, each_append, each_flat_map, each_map}
-use Rattle.oc_omf_file.specs.Canonical.{output_type, output_contents, output_bytes}
-use Rattle.oc_omf_file.specs.Names.{names_of, names_size, filled_from}
-use Rattle.oc_omf_file.specs.Outputs.{Output, outputs_of, piece_outputs, data_outputs, segment_output, symbol_outputs}
-use Rattle.oc_omf_file.specs.Pieces.{fields_between, pieces_of}
-use Rattle.oc_omf_file.proofs.BehindLaws.{OfSymbol, symbols_are}
+use Rattle.oc_omf_file.specs.{Canonical.{output_type, output_contents, output_bytes}, Names.{names_of, names_size, filled_from}}
+use Rattle.oc_omf_file.specs.{Outputs.{Output, outputs_of, piece_outputs, data_outputs, segment_output, symbol_outputs}, Pieces.{fields_between, pieces_of}}
+use Rattle.oc_omf_file.proofs.{BehindLaws.{OfSymbol, symbols_are}, CodedLaws.{IsForOmf, short_names}, ListLemmas.{all_both}, NameLaws.{filled_small}}
 use Rattle.oc_omf_file.specs.Outputs as output
 use Rattle.oc_omf.specs.Bytes.{entry_bytes}
-use Rattle.oc_omf_file.proofs.CodedLaws.{IsForOmf, short_names}
-use Rattle.oc_omf_file.proofs.ListLemmas.{all_both}
-use Rattle.oc_omf_file.proofs.NameLaws.{filled_small}
-use Rattle.oc_omf_write.specs.declared.entries.Entry.{Entry}
+use Rattle.oc_omf_write.specs.{declared.entries.Entry.{Entry}, declared.tables.Tables.{Tables}, Entries.{type_of, entry_for}, Made.{IsMade}}
+use Rattle.oc_omf_write.specs.{Names.{names_entry, texts_in, IsRange}, Pieces.{data_entries}, Plans.{AreEntries, parts_by, omf_parts}, Raws.{addend_in}}
+use Rattle.oc_omf_write.specs.{Written.{fixups_in}, Tables.{texts_of, fixups_of, bytes_by, CanPut}}
 use Rattle.oc_omf_write.specs.declared.entries.Entry.TheVariants as entry
-use Rattle.oc_omf_write.specs.declared.tables.Tables.{Tables}
-use Rattle.oc_omf_write.specs.Entries.{type_of, entry_for}
-use Rattle.oc_omf_write.specs.Made.{IsMade}
-use Rattle.oc_omf_write.specs.Names.{names_entry, texts_in, IsRange}
-use Rattle.oc_omf_write.specs.Pieces.{data_entries}
-use Rattle.oc_omf_write.specs.Plans.{AreEntries, parts_by, omf_parts}
 use Rattle.oc_plans.specs.Numbered.{section_with_numbers}
-use Rattle.oc_omf_write.specs.Raws.{addend_in}
-use Rattle.oc_omf_write.specs.Written.{fixups_in}
-use Rattle.oc_omf_write.specs.Tables.{texts_of, fixups_of, bytes_by, CanPut}
-use Rattle.oc_omf_write.proofs.EntryLemmas.{IsPut, each_put}
-use Rattle.oc_omf_write.proofs.PlannedLemmas.{data_are}
+use Rattle.oc_omf_write.proofs.{EntryLemmas.{IsPut, each_put}, PlannedLemmas.{data_are}}
 use Rattle.oc_plans.proofs.Turns.{map_append}
 
 -- ... outputs behind the names

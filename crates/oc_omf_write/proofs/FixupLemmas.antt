@@ -1,33 +1,19 @@
 -- The fixups of the sections, one after another.
 use Rattle.std.proofs.Common.{◌≡◌, ℕ, ◌+◌, List, [], ◌∷◌, ◌++◌, map, inl, inr, Some, sym, ◌∙◌, ap, subst, arith}
-use Rattle.std.specs.Prelude.{is_err}
+use Rattle.std.specs.{Prelude.{is_err}, List.{AllByRecursion}}
 use Rattle.oc_base.specs.declared.format.Word.TheVariants.{W32}
 use Rattle.oc_linking.specs.declared.terms.Width.TheVariants.{Four}
 use Rattle.oc_algebra.specs.Fields.{to_field_of}
-use Rattle.oc_neutral.specs.declared.symbol.Symbol.{Symbol}
-use Rattle.oc_neutral.specs.Rows.{shift_of}
+use Rattle.oc_neutral.specs.{declared.symbol.Symbol.{Symbol}, Rows.{shift_of}, declared.reloc.Reloc.{Reloc}, Objects.{Object, reloc_at}}
 use Rattle.oc_neutral.proofs.ShiftLemmas.{four_bytes_hold}
-use Rattle.oc_shows.specs.Manners.{omf_manner}
-use Rattle.oc_shows.specs.Seen.{section_place}
+use Rattle.oc_shows.specs.{Manners.{omf_manner}, Seen.{section_place}}
 use Rattle.oc_plans.specs.Numbered.{AreAll}
-use Rattle.oc_target.proofs.MeetsRelocs.{no_error}
-use Rattle.std.specs.List.{AllByRecursion}
+use Rattle.oc_target.proofs.{MeetsRelocs.{no_error}, Giving.{all_given}, Steps.{more_done}}
 use Rattle.std.proofs.lemmas.Option.{slice_get_within}
-use Rattle.oc_chains.specs.declared.field.Field.{Field}
-use Rattle.oc_chains.specs.Lists.{list_of}
-use Rattle.oc_target.proofs.Giving.{all_given}
-use Rattle.oc_target.proofs.Steps.{more_done}
-use Rattle.oc_neutral.specs.declared.reloc.Reloc.{Reloc}
-use Rattle.oc_neutral.specs.Objects.{Object, reloc_at}
+use Rattle.oc_chains.specs.{declared.field.Field.{Field}, Lists.{list_of}}
 use Rattle.oc_omf_file.specs.Fixups.{written_reloc}
-use Rattle.oc_omf_file.proofs.AimLaws.{aimed}
-use Rattle.oc_omf_file.proofs.CodedLaws.{IsForOmf, field_is, meets, omf_reloc}
-use Rattle.oc_omf_file.proofs.LineLaws.{number_low}
-use Rattle.oc_omf_file.proofs.FieldLaws.{form_kept}
-use Rattle.oc_omf_write.specs.declared.fixups.Fixup.{Fixup}
-use Rattle.oc_omf_write.specs.Numbers.{AreNumbers}
-use Rattle.oc_omf_write.specs.Raws.{CanWrite}
-use Rattle.oc_omf_write.specs.Written.{HasIndex, HasRow, fixup_with, fixups_of}
+use Rattle.oc_omf_file.proofs.{AimLaws.{aimed}, CodedLaws.{IsForOmf, field_is, meets, omf_reloc}, LineLaws.{number_low}, FieldLaws.{form_kept}}
+use Rattle.oc_omf_write.specs.{declared.fixups.Fixup.{Fixup}, Numbers.{AreNumbers}, Raws.{CanWrite}, Written.{HasIndex, HasRow, fixup_with, fixups_of}}
 use Rattle.oc_shelf.proofs.WritingLaws.MemberLemmas.{all_members}
 
 -- the index of a target fits

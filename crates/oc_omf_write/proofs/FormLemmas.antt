@@ -1,20 +1,12 @@
 -- The row of a form, and the number in a field that is written by it.
 use Rattle.std.proofs.Common.{◌≡◌, ℕ, Bool, true, false, cond, Option, Some, None, refl, sym, ◌∙◌, ap}
-use Rattle.std.specs.Prelude.{slice_get, find}
-use Rattle.std.specs.Option.{option_map_or}
+use Rattle.std.specs.{Prelude.{slice_get, find}, Option.{option_map_or}}
 use Rattle.std.proofs.lemmas.Option.{none-some}
-use Rattle.oc_base.specs.declared.format.Format.TheVariants.{Omf}
-use Rattle.oc_base.specs.declared.format.Word.TheVariants.{W32}
-use Rattle.oc_linking.specs.declared.terms.Hint.{Hint}
-use Rattle.oc_linking.specs.declared.terms.Hint.TheVariants.{Plain}
-use Rattle.oc_linking.specs.Numbers.{or_else}
-use Rattle.oc_algebra.specs.declared.form.Form.{Form}
-use Rattle.oc_algebra.specs.Fields.{to_field_of}
-use Rattle.oc_neutral.specs.declared.reloc.Reloc.{Reloc}
-use Rattle.oc_neutral.specs.Objects.{Object}
-use Rattle.oc_neutral.specs.Rows.{Row, Taken, TakesPlace, TakesSection, same_taken, taken_of, shift_of}
-use Rattle.oc_neutral.specs.RelocTables.{rows_of}
-use Rattle.oc_neutral.specs.Spelling.{is_written, row_taking, written_row}
+use Rattle.oc_base.specs.{declared.format.Format.TheVariants.{Omf}, declared.format.Word.TheVariants.{W32}}
+use Rattle.oc_linking.specs.{declared.terms.Hint.{Hint}, declared.terms.Hint.TheVariants.{Plain}, Numbers.{or_else}}
+use Rattle.oc_algebra.specs.{declared.form.Form.{Form}, Fields.{to_field_of}}
+use Rattle.oc_neutral.specs.{declared.reloc.Reloc.{Reloc}, Objects.{Object}, Rows.{Row, Taken, TakesPlace, TakesSection, same_taken, taken_of, shift_of}}
+use Rattle.oc_neutral.specs.{RelocTables.{rows_of}, Spelling.{is_written, row_taking, written_row}}
 use Rattle.oc_target.proofs.MeetsRows.{of_table, found_there}
 use Rattle.oc_omf_file.specs.Fixups.{written_reloc, row_by, number_or, number_by, field_number}
 use Rattle.oc_omf_write.specs.Written.{HasRow, number_in, shift_by, number_with}

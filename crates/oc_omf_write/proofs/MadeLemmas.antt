@@ -4,15 +4,9 @@ use Rattle.std.specs.List.{AllByRecursion}
 use Rattle.std.proofs.lemmas.List.{length-map}
 use Rattle.oc_neutral.specs.Objects.{Object}
 use Rattle.oc_omf_file.proofs.CodedLaws.{IsForOmf, few_names}
-use Rattle.oc_omf_write.specs.declared.entries.Entry.{Entry}
-use Rattle.oc_omf_write.specs.declared.tables.Tables.{Tables}
-use Rattle.oc_omf_write.specs.Made.{IsMadeWith}
-use Rattle.oc_omf_write.specs.Names.{text_by}
-use Rattle.oc_omf_write.specs.Pieces.{AreInSections}
-use Rattle.oc_omf_write.specs.Plans.{AreEntries, parts_by, omf_parts}
-use Rattle.oc_omf_write.specs.Tables.{AreSound, fixups_of, CanPut}
-use Rattle.oc_omf_write.proofs.FinalLemmas.{entries_put, entries_same}
-use Rattle.oc_omf_write.proofs.ReadyLemmas.{sections_counted, sound, in_sections, few}
+use Rattle.oc_omf_write.specs.{declared.entries.Entry.{Entry}, declared.tables.Tables.{Tables}, Made.{IsMadeWith}, Names.{text_by}, Pieces.{AreInSections}}
+use Rattle.oc_omf_write.specs.{Plans.{AreEntries, parts_by, omf_parts}, Tables.{AreSound, fixups_of, CanPut}}
+use Rattle.oc_omf_write.proofs.{FinalLemmas.{entries_put, entries_same}, ReadyLemmas.{sections_counted, sound, in_sections, few}}
 
 module _ (n : Object) (is : IsForOmf n) (t : Tables) (symbols : List Entry) (with : IsMadeWith n t symbols) where
   pub made_sound : AreSound t

@@ -1,16 +1,11 @@
 -- Names that are added one after another, each once, and where they stand.
 use Rattle.std.proofs.Common.{◌≡◌, ℕ, suc, ◌+◌, ◌≤◌, Bool, true, false, true≢false, cond, not, List, [], ◌∷◌, ◌++◌, length, drop, map, Some, None, refl, sym, ◌∙◌, ap, subst, arith}
-use Rattle.std.specs.Prelude.{slice_get, bytes_eq, fold, codes, ◌||◌}
-use Rattle.std.specs.List.{AllByRecursion, list_any, position_or_len}
-use Rattle.std.specs.Map.{update}
-use Rattle.std.proofs.lemmas.List.{drop_all, length-map}
-use Rattle.std.proofs.lemmas.Option.{none-some}
-use Rattle.std.proofs.lemmas.Slice.Eq.{bytes_eq-Decides}
+use Rattle.std.specs.{Prelude.{slice_get, bytes_eq, fold, codes, ◌||◌}, List.{AllByRecursion, list_any, position_or_len}, Map.{update}}
+use Rattle.std.proofs.lemmas.{List.{drop_all, length-map}, Option.{none-some}, Slice.Eq.{bytes_eq-Decides}}
 use Rattle.oc_neutral.specs.declared.section.Section.{Section}
 use Rattle.oc_omf_file.specs.Names.{class_of, with_name}
 use Rattle.oc_omf_file.proofs.ListLemmas.{all_both}
-use Rattle.oc_omf_write.specs.declared.names.Name.{Name}
-use Rattle.oc_omf_write.specs.declared.names.Names.{Names}
+use Rattle.oc_omf_write.specs.{declared.names.Name.{Name}, declared.names.Names.{Names}}
 use Rattle.oc_omf_write.specs.Names.{text_by, IsNameOf, given_for, names_for, place_among, value_at, AreNames, AreUpto}
 use Rattle.oc_plans.proofs.Turns.{map_append}
 use Rattle.oc_neutral.proofs.FieldLists.{drop_here}

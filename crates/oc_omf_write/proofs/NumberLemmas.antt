@@ -1,13 +1,10 @@
 -- The numbers of symbols, by their entries from the last to the first.
 use Rattle.std.proofs.Common.{◌≡◌, ℕ, ◌+◌, ◌<◌, Bool, true, false, cond, not, List, [], ◌∷◌, length, drop, map, refl, sym, ◌∙◌, ap, Some, arith}
-use Rattle.std.specs.Prelude.{slice_get, slice_index_or}
-use Rattle.std.specs.List.{position_or_len}
+use Rattle.std.specs.{Prelude.{slice_get, slice_index_or}, List.{position_or_len}}
 use Rattle.oc_neutral.specs.Objects.{Object}
 use Rattle.oc_omf_file.specs.Outputs.{Output, symbol_outputs}
 use Rattle.oc_omf_file.specs.Outputs as output
-use Rattle.oc_omf_write.specs.declared.entries.Entry.{Entry}
-use Rattle.oc_omf_write.specs.Entries.{entry_for}
-use Rattle.oc_omf_write.specs.Numbers.{is_of_symbol, AreNumbers}
+use Rattle.oc_omf_write.specs.{declared.entries.Entry.{Entry}, Entries.{entry_for}, Numbers.{is_of_symbol, AreNumbers}}
 use Rattle.oc_neutral.proofs.FieldLists.{drop_here}
 
 -- the first place in a list that begins with x

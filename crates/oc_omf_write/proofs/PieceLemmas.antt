@@ -1,16 +1,12 @@
 -- Fixups in order: how many stand below an offset, which stand between two, and where a piece ends.
 use Rattle.std.proofs.Common.{◌≡◌, ℕ, zero, suc, ◌+◌, ◌*◌, ◌-◌, ◌<◌, ◌≤◌, Bool, true, false, cond, ◌&&◌, nat_le, nat_lt, List, [], ◌∷◌, ◌++◌, length, take, drop, get_or, Option, Some, None, refl, sym, ◌∙◌, ap, subst, arith}
-use Rattle.std.specs.Prelude.{slice_get, find, flat_map, max}
-use Rattle.std.specs.List.Sorted.{IsPartitionedBy}
-use Rattle.std.proofs.lemmas.Bool.Decides.{nat_tests}
-use Rattle.std.proofs.lemmas.Option.{none-some, same_Some}
+use Rattle.std.specs.{Prelude.{slice_get, find, flat_map, max}, List.Sorted.{IsPartitionedBy}}
+use Rattle.std.proofs.lemmas.{Bool.Decides.{nat_tests}, Option.{none-some, same_Some}}
 use Rattle.oc_omf_file.specs.Pieces.{cuts, piece_end, pieces_upto}
 use Rattle.oc_omf_file.proofs.PieceLaws.{AreApart}
 use Rattle.oc_omf_file.proofs.PieceLaws as laws
-use Rattle.oc_omf_write.specs.declared.entries.Entry.{Entry}
-use Rattle.oc_omf_write.specs.declared.fixups.Fixup.{Fixup}
-use Rattle.oc_omf_write.specs.Pieces.{places_of, below, Follow, FollowWithin, AreInOrder, piece_entries}
-use Rattle.oc_omf_write.specs.Written.{between}
+use Rattle.oc_omf_write.specs.{declared.entries.Entry.{Entry}, declared.fixups.Fixup.{Fixup}}
+use Rattle.oc_omf_write.specs.{Pieces.{places_of, below, Follow, FollowWithin, AreInOrder, piece_entries}, Written.{between}}
 
 -- ... order
 

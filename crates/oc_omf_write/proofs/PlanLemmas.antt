@@ -1,15 +1,10 @@
 -- The file of the entries that are planned.
 use Rattle.std.proofs.Common.{◌≡◌, List, length, refl, sym, ◌∙◌, ap, arith}
 use Rattle.oc_neutral.specs.Objects.{Object}
-use Rattle.oc_shelf.specs.declared.writing.layout.Layout.{Layout}
-use Rattle.oc_shelf.specs.Writing.Parts.{behind, file_of, table_of, pieces_by, IsPlaced}
+use Rattle.oc_shelf.specs.{declared.writing.layout.Layout.{Layout}, Writing.Parts.{behind, file_of, table_of, pieces_by, IsPlaced}}
 use Rattle.oc_plans.proofs.PlacedLemmas.{file_laid, joined_rows, joined_table, placed_laid}
-use Rattle.oc_omf_file.specs.Canonical.{output_bytes, omf_file}
-use Rattle.oc_omf_file.specs.Outputs.{outputs_of}
-use Rattle.oc_omf_write.specs.declared.entries.Entry.{Entry}
-use Rattle.oc_omf_write.specs.declared.tables.Tables.{Tables}
-use Rattle.oc_omf_write.specs.Plans.{AreLaid, parts_by, omf_parts}
-use Rattle.oc_omf_write.specs.Tables.{bytes_by}
+use Rattle.oc_omf_file.specs.{Canonical.{output_bytes, omf_file}, Outputs.{outputs_of}}
+use Rattle.oc_omf_write.specs.{declared.entries.Entry.{Entry}, declared.tables.Tables.{Tables}, Plans.{AreLaid, parts_by, omf_parts}, Tables.{bytes_by}}
 
 module _ (t : Tables) (entries : List Entry) (layout : Layout) (are : AreLaid t layout entries) where
   -- they are placed

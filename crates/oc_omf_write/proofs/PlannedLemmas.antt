@@ -1,36 +1,21 @@
 -- What is planned is the canonical file, entry by entry.
 use Rattle.std.proofs.Common.{◌≡◌, ℕ, suc, ◌+◌, Bool, true, false, cond, ◌&&◌, nat_eq, nat_le, nat_lt, List, [], ◌∷◌, ◌++◌, length, map, filter, Some, refl, sym, ◌∙◌, ap, arith}
-use Rattle.std.specs.Prelude.{slice_get, flat_map, fold, codes}
-use Rattle.std.specs.List.{enumerate_from}
-use Rattle.std.proofs.lemmas.List.{length-map}
-use Rattle.std.proofs.lemmas.List.FromFn.{length-enumerate_from}
-use Rattle.std.proofs.lemmas.Option.{get_or_from_slice_get}
-use Rattle.oc_chains.specs.declared.field.Field.{Field}
-use Rattle.oc_chains.specs.Lists.{list_of}
-use Rattle.oc_neutral.specs.declared.section.Section.{Section}
-use Rattle.oc_neutral.specs.declared.reloc.Reloc.{Reloc}
-use Rattle.oc_neutral.specs.declared.reloc.Target.{Target}
+use Rattle.std.specs.{Prelude.{slice_get, flat_map, fold, codes}, List.{enumerate_from}}
+use Rattle.std.proofs.lemmas.{List.{length-map}, List.FromFn.{length-enumerate_from}, Option.{get_or_from_slice_get}}
+use Rattle.oc_chains.specs.{declared.field.Field.{Field}, Lists.{list_of}}
+use Rattle.oc_neutral.specs.{declared.section.Section.{Section}, declared.reloc.Reloc.{Reloc}, declared.reloc.Target.{Target}, Constants.{with_contents}}
+use Rattle.oc_neutral.specs.{Objects.{Object}, Rows.{Row}}
 use Rattle.oc_neutral.specs.declared.reloc.Target.TheVariants as target
-use Rattle.oc_neutral.specs.Constants.{with_contents}
-use Rattle.oc_neutral.specs.Objects.{Object}
-use Rattle.oc_neutral.specs.Rows.{Row}
 use Rattle.oc_shelf.proofs.WritingLaws.MemberLemmas.{member_enumerated, member_map, map-map}
-use Rattle.oc_omf_file.specs.Fixups.{raw_of, field_fixup, row_by, target_method, written_reloc}
-use Rattle.oc_omf_file.specs.Names.{class_of, with_name, names_of}
-use Rattle.oc_omf_file.specs.Outputs.{piece_outputs, data_outputs}
+use Rattle.oc_omf_file.specs.{Fixups.{raw_of, field_fixup, row_by, target_method, written_reloc}, Names.{class_of, with_name, names_of}}
+use Rattle.oc_omf_file.specs.{Outputs.{piece_outputs, data_outputs}, Pieces.{fields_between, offsets_of, pieces_of, pieces_upto}}
 use Rattle.oc_omf_file.specs.Outputs as output
-use Rattle.oc_omf_file.specs.Pieces.{fields_between, offsets_of, pieces_of, pieces_upto}
 use Rattle.oc_omf_file.proofs.SmallLaws.{length-raw}
-use Rattle.oc_omf_write.specs.declared.entries.Entry.{Entry}
-use Rattle.oc_omf_write.specs.declared.entries.Entry.TheVariants as entry
-use Rattle.oc_omf_write.specs.declared.fixups.Fixup.{Fixup}
-use Rattle.oc_omf_write.specs.Entries.{entry_for}
-use Rattle.oc_omf_write.specs.Names.{names_for, given_for}
-use Rattle.oc_omf_write.specs.Numbers.{AreNumbers}
-use Rattle.oc_omf_write.specs.Pieces.{places_of, piece_entries, section_entries, fixups_at, data_entries}
-use Rattle.oc_plans.specs.Numbered.{with_numbers, section_with_numbers}
-use Rattle.oc_omf_write.specs.Raws.{addend_in, sections_in}
+use Rattle.oc_omf_write.specs.{declared.entries.Entry.{Entry}, declared.fixups.Fixup.{Fixup}, Entries.{entry_for}, Names.{names_for, given_for}}
+use Rattle.oc_omf_write.specs.{Numbers.{AreNumbers}, Pieces.{places_of, piece_entries, section_entries, fixups_at, data_entries}, Raws.{addend_in, sections_in}}
 use Rattle.oc_omf_write.specs.Written.{between, fixup_bytes_of, fixup_with, method_by, HasIndex, fixups_in}
+use Rattle.oc_omf_write.specs.declared.entries.Entry.TheVariants as entry
+use Rattle.oc_plans.specs.Numbered.{with_numbers, section_with_numbers}
 use Rattle.oc_omf_write.specs.Written as written
 use Rattle.oc_plans.proofs.Turns.{map_append}
 

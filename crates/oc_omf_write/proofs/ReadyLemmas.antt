@@ -1,42 +1,22 @@
 -- What is made of an object is ready to be laid out.
 use Rattle.std.proofs.Common.{◌≡◌, ℕ, zero, suc, ◌+◌, ◌*◌, ◌^◌, ◌<◌, ◌≤◌, Bool, true, false, cond, nat_eq, nat_lt, List, [], ◌∷◌, ◌++◌, length, map, Option, Some, None, refl, sym, ◌∙◌, ap, subst, arith, length-append, Vec, Global}
-use Rattle.std.specs.Prelude.{slice_get, flat_map, filter_map}
-use Rattle.std.specs.List.{AllByRecursion, enumerate_from, range_with_len, cons_option}
-use Rattle.std.proofs.lemmas.List.{length-map}
-use Rattle.std.proofs.lemmas.List.FromFn.{length-enumerate_from, length-range_with_len}
-use Rattle.std.proofs.lemmas.Option.{same_Some, slice_get_within}
-use Rattle.oc_neutral.specs.declared.section.Section.{Section}
-use Rattle.oc_neutral.specs.declared.symbol.Symbol.{Symbol}
-use Rattle.oc_neutral.specs.Constants.{with_contents}
-use Rattle.oc_neutral.specs.Objects.{Object}
-use Rattle.oc_neutral.specs.Building.{is_zero}
-use Rattle.oc_neutral.specs.Invariants.{HasItsBytes}
+use Rattle.std.specs.{Prelude.{slice_get, flat_map, filter_map}, List.{AllByRecursion, enumerate_from, range_with_len, cons_option}}
+use Rattle.std.proofs.lemmas.{List.{length-map}, List.FromFn.{length-enumerate_from, length-range_with_len}, Option.{same_Some, slice_get_within}}
+use Rattle.oc_neutral.specs.{declared.section.Section.{Section}, declared.symbol.Symbol.{Symbol}, Constants.{with_contents}, Objects.{Object}}
+use Rattle.oc_neutral.specs.{Building.{is_zero}, Invariants.{HasItsBytes}}
 use Rattle.oc_neutral.proofs.Positions.{each_at, there_at}
-use Rattle.oc_omf_file.specs.Fixups.{raw_of}
-use Rattle.oc_omf_file.specs.Names.{names_of, filled_from, names_size}
-use Rattle.oc_omf_file.specs.Outputs.{Output, symbol_outputs, external_output, communal_output, public_output}
+use Rattle.oc_omf_file.specs.{Fixups.{raw_of}, Names.{names_of, filled_from, names_size}}
+use Rattle.oc_omf_file.specs.{Outputs.{Output, symbol_outputs, external_output, communal_output, public_output}, Pieces.{pieces_upto, piece_end}}
 use Rattle.oc_omf_file.specs.Outputs as output
-use Rattle.oc_omf_file.specs.Pieces.{pieces_upto, piece_end}
-use Rattle.oc_omf_file.proofs.BehindLaws.{OfSymbol, symbols_are}
-use Rattle.oc_omf_file.proofs.CodedLaws.{IsForOmf, short_names, few_names, size_low}
-use Rattle.oc_omf_file.proofs.SmallLaws.{length-raw}
-use Rattle.oc_omf_write.specs.declared.entries.Entry.{Entry}
+use Rattle.oc_omf_file.proofs.{BehindLaws.{OfSymbol, symbols_are}, CodedLaws.{IsForOmf, short_names, few_names, size_low}, SmallLaws.{length-raw}}
+use Rattle.oc_omf_write.specs.{declared.entries.Entry.{Entry}, declared.fixups.Fixup.{Fixup}, declared.tables.Tables.{Tables}, Entries.{entry_for}}
+use Rattle.oc_omf_write.specs.{Made.{IsMade}, Names.{IsNameOf, IsSegment, names_entry, texts_in, names_for, segment_in}, Numbers.{HasPlace, AreNumbers}}
+use Rattle.oc_omf_write.specs.{Pieces.{AreInSections, FollowWithin, fixups_at, piece_entries, section_entries, data_entries, places_of}, Plans.{AreEntries}}
+use Rattle.oc_omf_write.specs.{Raws.{addend_in, sections_in}, Tables.{AreSound, texts_of, fixups_of}}
 use Rattle.oc_omf_write.specs.declared.entries.Entry.TheVariants as entry
-use Rattle.oc_omf_write.specs.declared.fixups.Fixup.{Fixup}
-use Rattle.oc_omf_write.specs.declared.tables.Tables.{Tables}
-use Rattle.oc_omf_write.specs.Entries.{entry_for}
-use Rattle.oc_omf_write.specs.Made.{IsMade}
-use Rattle.oc_omf_write.specs.Names.{IsNameOf, IsSegment, names_entry, texts_in, names_for, segment_in}
-use Rattle.oc_omf_write.specs.Numbers.{HasPlace, AreNumbers}
-use Rattle.oc_omf_write.specs.Pieces.{AreInSections, FollowWithin, fixups_at, piece_entries, section_entries, data_entries, places_of}
-use Rattle.oc_omf_write.specs.Plans.{AreEntries}
 use Rattle.oc_plans.specs.Numbered.{section_with_numbers}
-use Rattle.oc_omf_write.specs.Raws.{addend_in, sections_in}
-use Rattle.oc_omf_write.specs.Tables.{AreSound, texts_of, fixups_of}
 use Rattle.oc_omf_write.specs.Written as written
-use Rattle.oc_omf_write.proofs.EntryLemmas.{section_there, fixups_here, fixups_follow}
-use Rattle.oc_omf_write.proofs.PieceLemmas.{follow_from}
-use Rattle.oc_omf_write.proofs.PlannedLemmas.{fixups_counted, names_same}
+use Rattle.oc_omf_write.proofs.{EntryLemmas.{section_there, fixups_here, fixups_follow}, PieceLemmas.{follow_from}, PlannedLemmas.{fixups_counted, names_same}}
 use Rattle.oc_omf_write.proofs.SegmentLemmas.{are_segments}
 use Rattle.oc_shelf.proofs.WritingLaws.MemberLemmas.{all_members}
 

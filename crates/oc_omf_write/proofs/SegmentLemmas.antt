@@ -1,19 +1,13 @@
 -- The indexes of the names of sections, and the codes of their alignments.
 use Rattle.std.proofs.Common.{◌≡◌, ℕ, zero, suc, ◌+◌, ◌-◌, ◌^◌, ◌<◌, ◌≤◌, Bool, true, false, ◌||◌, cond, nat_eq, eq-eqb, None, List, [], ◌∷◌, length, map, Some, refl, ◌∙◌, ap, arith}
-use Rattle.std.specs.Prelude.{slice_get, bytes_eq, is_some}
-use Rattle.std.specs.List.{AllByRecursion, enumerate_from, list_any, position_or_len}
+use Rattle.std.specs.{Prelude.{slice_get, bytes_eq, is_some}, List.{AllByRecursion, enumerate_from, list_any, position_or_len}}
 use Rattle.std.proofs.lemmas.Option.{none-some, same_Some}
-use Rattle.oc_neutral.specs.Omf.Family.{omf_aligns}
+use Rattle.oc_neutral.specs.{Omf.Family.{omf_aligns}, declared.section.Section.{Section}, Objects.{Object}}
 use Rattle.oc_plans.specs.Numbered.{section_with_numbers}
-use Rattle.oc_neutral.specs.declared.section.Section.{Section}
-use Rattle.oc_neutral.specs.Objects.{Object}
 use Rattle.oc_base.specs.declared.format.Format.TheVariants.{Omf}
 use Rattle.oc_omf_file.specs.Names.{class_of, names_of}
-use Rattle.oc_omf_file.proofs.CodedLaws.{IsForOmf}
-use Rattle.oc_omf_file.proofs.NameLaws.{section_named, section_classed, name_within}
-use Rattle.oc_omf_write.specs.declared.names.Names.{Names}
-use Rattle.oc_omf_write.specs.Names.{names_for, AreNames, IsIndexed, IsSegment}
-use Rattle.oc_omf_write.specs.Raws.{addend_in, sections_in}
+use Rattle.oc_omf_file.proofs.{CodedLaws.{IsForOmf}, NameLaws.{section_named, section_classed, name_within}}
+use Rattle.oc_omf_write.specs.{declared.names.Names.{Names}, Names.{names_for, AreNames, IsIndexed, IsSegment}, Raws.{addend_in, sections_in}}
 
 -- a text that is among them has an index
 indexed : (sections : List Section) (names : Names) (text : List ℕ) → AreNames sections (names_for sections) names → list_any (bytes_eq text) (names_for sections) ≡ true

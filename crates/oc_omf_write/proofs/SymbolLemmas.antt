@@ -1,15 +1,11 @@
 -- The entries of symbols, in the order of the symbols.
 use Rattle.std.proofs.Common.{◌≡◌, ℕ, ◌+◌, ◌≤◌, List, [], ◌∷◌, ◌++◌, length, drop, map, Option, Some, None, refl, sym, ◌∙◌, ap}
-use Rattle.std.specs.Prelude.{slice_get, filter_map}
-use Rattle.std.specs.List.{enumerate_from, cons_option}
-use Rattle.std.specs.Option.{option_map, option_map_or}
+use Rattle.std.specs.{Prelude.{slice_get, filter_map}, List.{enumerate_from, cons_option}, Option.{option_map, option_map_or}}
 use Rattle.std.proofs.lemmas.List.{drop_all}
 use Rattle.oc_target.proofs.Giving.{more_given, all_given}
-use Rattle.oc_neutral.specs.declared.symbol.Symbol.{Symbol}
-use Rattle.oc_neutral.specs.Objects.{Object}
+use Rattle.oc_neutral.specs.{declared.symbol.Symbol.{Symbol}, Objects.{Object}}
 use Rattle.oc_omf_file.specs.Outputs.{Output, external_output, communal_output, public_output, symbol_outputs}
-use Rattle.oc_omf_write.specs.declared.entries.Entry.{Entry}
-use Rattle.oc_omf_write.specs.Entries.{entry_for}
+use Rattle.oc_omf_write.specs.{declared.entries.Entry.{Entry}, Entries.{entry_for}}
 use Rattle.oc_plans.proofs.Turns.{map_append}
 use Rattle.oc_neutral.proofs.FieldLists.{drop_here}
 

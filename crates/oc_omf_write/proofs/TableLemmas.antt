@@ -1,17 +1,11 @@
 -- How long the contents of entries are.
 use Rattle.std.proofs.Common.{◌≡◌, ℕ, zero, suc, ◌+◌, ◌-◌, ◌*◌, ◌/◌, ◌%◌, ◌≤◌, Bool, true, false, nat_le, cond, List, [], ◌∷◌, length, take, drop, map, Some, refl, sym, ◌∙◌, ap, subst, arith, length-append}
-use Rattle.std.specs.Prelude.{flat_map, slice_get, slice_range}
-use Rattle.std.specs.List.{AllByRecursion}
-use Rattle.std.proofs.lemmas.Option.{none-some, same_Some}
-use Rattle.std.proofs.lemmas.List.Sums.{sum_by-cons}
+use Rattle.std.specs.{Prelude.{flat_map, slice_get, slice_range}, List.{AllByRecursion}}
+use Rattle.std.proofs.lemmas.{Option.{none-some, same_Some}, List.Sums.{sum_by-cons}}
 use Rattle.oc_neutral.specs.declared.section.Section.{Section}
-use Rattle.oc_omf.specs.declared.structures.Method.{Method}
+use Rattle.oc_omf.specs.{declared.structures.Method.{Method}, Bytes.{index_bytes, frame_bytes, name_bytes}}
 use Rattle.oc_omf_file.specs.Names.{names_size}
-use Rattle.oc_omf.specs.Bytes.{index_bytes, frame_bytes, name_bytes}
-use Rattle.oc_omf_write.specs.declared.fixups.Fixup.{Fixup}
-use Rattle.oc_omf_write.specs.declared.names.Name.{Name}
-use Rattle.oc_omf_write.specs.Names.{text_by, AreShort}
-use Rattle.oc_omf_write.specs.Written.{fixup_bytes_of}
+use Rattle.oc_omf_write.specs.{declared.fixups.Fixup.{Fixup}, declared.names.Name.{Name}, Names.{text_by, AreShort}, Written.{fixup_bytes_of}}
 use Rattle.oc_omf_file.proofs.SmallLaws.{length-index}
 
 frame_long : (m : Method) → length (frame_bytes m) ≤ 2

@@ -1,7 +1,6 @@
 -- The entries of a planned file, by positions in the object (TIS OMF 1.1, "Record Formats"; our profile).
 use Rattle.std.specs.Prelude.{ℕ}
-use Rattle.oc_omf.specs.declared.constants.TheConstants.{THEADR, LNAMES, SEGDEF, GRPDEF, EXTDEF, COMDEF, PUBDEF, LEDATA, FIXUPP, MODEND}
-use Rattle.oc_omf.specs.Bytes.{wide}
+use Rattle.oc_omf.specs.{declared.constants.TheConstants.{THEADR, LNAMES, SEGDEF, GRPDEF, EXTDEF, COMDEF, PUBDEF, LEDATA, FIXUPP, MODEND}, Bytes.{wide}}
 use Rattle.oc_omf_file.specs.Outputs.{Output, Header, Names, Segment, Group, External, Communal, Public, Data, Fixups, End}
 use Rattle.oc_omf_write.specs.declared.entries.Entry.{Entry}
 use Rattle.oc_omf_write.specs.declared.entries.Entry.TheVariants as entry

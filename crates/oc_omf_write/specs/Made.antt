@@ -1,17 +1,9 @@
 -- What a file of an object is made of.
-use Rattle.std.specs.Prelude.{◌≡◌, ℕ, List, length, map}
-use Rattle.std.specs.List.{AllByRecursion}
+use Rattle.std.specs.{Prelude.{◌≡◌, ℕ, List, length, map}, List.{AllByRecursion}}
 use Rattle.oc_neutral.specs.Objects.{Object}
-use Rattle.oc_omf_file.specs.Names.{names_of}
-use Rattle.oc_omf_file.specs.Outputs.{symbol_outputs}
-use Rattle.oc_omf_write.specs.declared.entries.Entry.{Entry}
-use Rattle.oc_omf_write.specs.declared.tables.Tables.{Tables}
-use Rattle.oc_omf_write.specs.Entries.{entry_for}
-use Rattle.oc_omf_write.specs.Names.{segment_in, IsNameOf}
-use Rattle.oc_omf_write.specs.Numbers.{AreNumbers}
-use Rattle.oc_omf_write.specs.Raws.{sections_in}
-use Rattle.oc_omf_write.specs.Tables.{texts_of, fixups_of}
-use Rattle.oc_omf_write.specs.Written.{fixups_in}
+use Rattle.oc_omf_file.specs.{Names.{names_of}, Outputs.{symbol_outputs}}
+use Rattle.oc_omf_write.specs.{declared.entries.Entry.{Entry}, declared.tables.Tables.{Tables}, Entries.{entry_for}, Names.{segment_in, IsNameOf}}
+use Rattle.oc_omf_write.specs.{Numbers.{AreNumbers}, Raws.{sections_in}, Tables.{texts_of, fixups_of}, Written.{fixups_in}}
 
 -- what is made of an object, whose symbols have these numbers
 pub record IsMade (n : Object) (t : Tables) (numbers : List ℕ) : Type 0 where

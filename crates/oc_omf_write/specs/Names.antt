@@ -1,22 +1,14 @@
 -- The names of sections, each once, and their positions (TIS OMF 1.1, "LNAMES: List of Names Record"; our profile).
 use Rattle.std.specs.Prelude.{◌≡◌, ℕ, ◌+◌, ◌<◌, ◌≤◌, true, bytes_eq, nat_eq, if◌then◌else◌, List, [], ◌∷◌, ◌++◌, drop, length, map, flat_map, fold, codes, slice_get, slice_range, is_some, Option, Some, None}
-use Rattle.std.specs.BTreeMap.{BTreeMap, get_by}
-use Rattle.std.specs.Cmp.Lexicographic.{slice_cmp}
-use Rattle.std.specs.Ordering.{nat_cmp}
-use denote.Ref.{Bor}
-use Rattle.std.specs.List.{AllByRecursion, list_any, position_or_len}
+use Rattle.std.specs.{BTreeMap.{BTreeMap, get_by}, Cmp.Lexicographic.{slice_cmp}, Ordering.{nat_cmp}, List.{AllByRecursion, list_any, position_or_len}}
 use Rattle.std.specs.Option.{option_map_or}
-use Rattle.oc_neutral.specs.Omf.Family.{omf_aligns}
-use Rattle.oc_neutral.specs.Omf.Kinds.{omf_class}
-use Rattle.oc_neutral.specs.declared.section.Section.{Section}
+use denote.Ref.{Bor}
+use Rattle.oc_neutral.specs.{Omf.Family.{omf_aligns}, Omf.Kinds.{omf_class}, declared.section.Section.{Section}}
 use Rattle.oc_omf.specs.declared.structures.Segment as read
-use Rattle.oc_omf_file.specs.Canonical.{attributes_of}
-use Rattle.oc_omf_file.specs.Names.{class_of, with_name, filled_from}
-use Rattle.oc_omf_write.specs.declared.entries.Entry.{Entry}
+use Rattle.oc_omf_file.specs.{Canonical.{attributes_of}, Names.{class_of, with_name, filled_from}}
+use Rattle.oc_omf_write.specs.{declared.entries.Entry.{Entry}, declared.names.Name.{Name}, declared.names.Names.{Names}}
 use Rattle.oc_omf_write.specs.declared.entries.Entry.TheVariants as entry
-use Rattle.oc_omf_write.specs.declared.names.Name.{Name}
 use Rattle.oc_omf_write.specs.declared.names.Name.TheVariants as name
-use Rattle.oc_omf_write.specs.declared.names.Names.{Names}
 
 -- ... one name
 

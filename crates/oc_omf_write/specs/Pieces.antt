@@ -3,10 +3,8 @@ use Rattle.std.specs.Prelude.{◌≡◌, ℕ, ◌+◌, ◌^◌, ◌<◌, ◌≤�
 use Rattle.std.specs.List.{enumerate_from}
 use Rattle.oc_neutral.specs.declared.section.Section.{Section}
 use Rattle.oc_omf_file.specs.Pieces.{pieces_upto}
-use Rattle.oc_omf_write.specs.declared.entries.Entry.{Entry}
+use Rattle.oc_omf_write.specs.{declared.entries.Entry.{Entry}, declared.fixups.Fixup.{Fixup}, Written.{between}}
 use Rattle.oc_omf_write.specs.declared.entries.Entry.TheVariants as entry
-use Rattle.oc_omf_write.specs.declared.fixups.Fixup.{Fixup}
-use Rattle.oc_omf_write.specs.Written.{between}
 
 -- where the fields of fixups lie
 abbrev pub places_of : List Fixup → List ℕ

@@ -1,19 +1,12 @@
 -- Planned files: their entries, one after another (TIS OMF 1.1, "Record Format"; our profile).
-use Rattle.std.specs.Prelude.{◌≡◌, ℕ, List, [], ◌∷◌, ◌++◌, length, map}
-use Rattle.std.specs.List.{AllByRecursion, range_with_len}
+use Rattle.std.specs.{Prelude.{◌≡◌, ℕ, List, [], ◌∷◌, ◌++◌, length, map}, List.{AllByRecursion, range_with_len}}
 use Rattle.oc_neutral.specs.Objects.{Object}
-use Rattle.oc_omf_file.specs.Canonical.{output_bytes}
-use Rattle.oc_omf_file.specs.Names.{filled_from}
-use Rattle.oc_omf_file.specs.Outputs.{outputs_of}
+use Rattle.oc_omf_file.specs.{Canonical.{output_bytes}, Names.{filled_from}, Outputs.{outputs_of}}
 use Rattle.oc_shelf.specs.Writing.Parts as placed
-use Rattle.oc_shelf.specs.declared.writing.layout.Layout.{Layout}
-use Rattle.oc_shelf.specs.Writing.Parts.{behind}
-use Rattle.oc_omf_write.specs.declared.entries.Entry.{Entry}
-use Rattle.oc_omf_write.specs.declared.entries.Entry.TheVariants as entry
-use Rattle.oc_omf_write.specs.declared.tables.Tables.{Tables}
-use Rattle.oc_omf_write.specs.Names.{names_entry, texts_in, IsRange}
-use Rattle.oc_omf_write.specs.Pieces.{data_entries}
+use Rattle.oc_shelf.specs.{declared.writing.layout.Layout.{Layout}, Writing.Parts.{behind}}
+use Rattle.oc_omf_write.specs.{declared.entries.Entry.{Entry}, declared.tables.Tables.{Tables}, Names.{names_entry, texts_in, IsRange}, Pieces.{data_entries}}
 use Rattle.oc_omf_write.specs.Tables.{AreSound, CanPut, bytes_by, texts_of, fixups_of}
+use Rattle.oc_omf_write.specs.declared.entries.Entry.TheVariants as entry
 
 -- the entries of a file, as their bytes
 abbrev pub parts_by : Tables → List Entry → List (List ℕ)

@@ -1,12 +1,9 @@
 -- The bytes of all sections of an output, with the numbers in their fields (TIS OMF 1.1, "FIXUPP: Fixup Record").
 use Rattle.std.specs.Prelude.{◌≡◌, List}
-use Rattle.oc_neutral.specs.declared.section.Section.{Section}
-use Rattle.oc_neutral.specs.declared.symbol.Symbol.{Symbol}
-use Rattle.oc_neutral.specs.Objects.{Object}
+use Rattle.oc_neutral.specs.{declared.section.Section.{Section}, declared.symbol.Symbol.{Symbol}, Objects.{Object}, declared.reloc.Reloc.{Reloc}}
+use Rattle.oc_neutral.specs.Rows.{shift_of}
 use Rattle.oc_plans.specs.Numbered.{Numbering, all_with_numbers}
 use Rattle.oc_base.specs.declared.format.Format.TheVariants.{Omf}
-use Rattle.oc_neutral.specs.declared.reloc.Reloc.{Reloc}
-use Rattle.oc_neutral.specs.Rows.{shift_of}
 use Rattle.oc_target.specs.Meets.{HoldsAddend}
 use Rattle.oc_omf_file.specs.Fixups.{field_number, written_reloc}
 use Rattle.oc_omf_write.specs.Written.{HasRow}

@@ -1,24 +1,15 @@
 -- The contents of entries, by what a file is made of (TIS OMF 1.1, "Record Formats"; our profile).
-use Rattle.std.specs.Prelude.{◌≡◌, ℕ, ◌+◌, ◌^◌, ◌<◌, ◌≤◌, List, [], ◌∷◌, length, map, flat_map, codes, slice_get, slice_range, Some}
-use Rattle.std.specs.List.{AllByRecursion}
+use Rattle.std.specs.{Prelude.{◌≡◌, ℕ, ◌+◌, ◌^◌, ◌<◌, ◌≤◌, List, [], ◌∷◌, length, map, flat_map, codes, slice_get, slice_range, Some}, List.{AllByRecursion}}
 use Rattle.std.specs.Option.{option_map_or}
 use Rattle.oc_linking.specs.declared.terms.Binding.TheVariants.{Common}
-use Rattle.oc_neutral.specs.declared.section.Section.{Section}
-use Rattle.oc_neutral.specs.declared.symbol.Symbol.{Symbol}
-use Rattle.oc_neutral.specs.KeySymbols.{global_place}
-use Rattle.oc_neutral.specs.Normal.{Place}
+use Rattle.oc_neutral.specs.{declared.section.Section.{Section}, declared.symbol.Symbol.{Symbol}, KeySymbols.{global_place}, Normal.{Place}}
 use Rattle.oc_omf.specs.declared.structures.Segment as read
-use Rattle.oc_omf_file.specs.Canonical.{size_by, public_at}
-use Rattle.oc_omf_file.specs.Names.{names_size}
+use Rattle.oc_omf_file.specs.{Canonical.{size_by, public_at}, Names.{names_size}}
 use Rattle.oc_omf.specs.Bytes.{entry_bytes, name_bytes, index_bytes, segment_bytes, external_bytes, communal_bytes, data_bytes}
-use Rattle.oc_omf_write.specs.declared.entries.Entry.{Entry}
-use Rattle.oc_omf_write.specs.declared.entries.Entry.TheVariants as entry
-use Rattle.oc_omf_write.specs.declared.fixups.Fixup.{Fixup}
-use Rattle.oc_omf_write.specs.declared.tables.Tables.{Tables}
-use Rattle.oc_omf_write.specs.Entries.{type_of}
-use Rattle.oc_omf_write.specs.Names.{text_by, IsNameOf, IsSegment, AreShort, IsRange}
-use Rattle.oc_omf_write.specs.Pieces.{fixups_at, AreInOrder}
+use Rattle.oc_omf_write.specs.{declared.entries.Entry.{Entry}, declared.fixups.Fixup.{Fixup}, declared.tables.Tables.{Tables}, Entries.{type_of}}
+use Rattle.oc_omf_write.specs.{Names.{text_by, IsNameOf, IsSegment, AreShort, IsRange}, Pieces.{fixups_at, AreInOrder}}
 use Rattle.oc_omf_write.specs.Written.{between, fixup_bytes_of, IsSmallFixup}
+use Rattle.oc_omf_write.specs.declared.entries.Entry.TheVariants as entry
 
 -- the texts of the names
 abbrev pub texts_of : Tables → List (List ℕ)

@@ -1,24 +1,14 @@
 -- Fixups of sections as they are written (TIS OMF 1.1, "FIXUPP: Fixup Record").
 use Rattle.std.specs.Prelude.{◌≡◌, ℕ, ◌+◌, ◌-◌, ◌<◌, ◌≤◌, ◌&&◌, nat_eq, nat_le, nat_lt, if◌then◌else◌, List, length, map, filter, slice_index_or, Option, Some, ℤ, pos}
-use Rattle.std.specs.List.{enumerate_from}
-use Rattle.std.specs.Option.{option_map_or}
-use Rattle.oc_base.specs.declared.format.Format.TheVariants.{Omf}
-use Rattle.oc_base.specs.declared.format.Word.TheVariants.{W32}
+use Rattle.std.specs.{List.{enumerate_from}, Option.{option_map_or}}
+use Rattle.oc_base.specs.{declared.format.Format.TheVariants.{Omf}, declared.format.Word.TheVariants.{W32}}
 use Rattle.oc_linking.specs.declared.terms.Hint.{Hint}
-use Rattle.oc_algebra.specs.declared.form.Form.{Form}
-use Rattle.oc_algebra.specs.Fields.{to_field_of}
-use Rattle.oc_chains.specs.declared.field.Field.{Field}
-use Rattle.oc_chains.specs.Lists.{list_of}
-use Rattle.oc_neutral.specs.declared.section.Section.{Section}
-use Rattle.oc_neutral.specs.declared.reloc.Reloc.{Reloc}
-use Rattle.oc_neutral.specs.declared.reloc.Target.{Target}
+use Rattle.oc_algebra.specs.{declared.form.Form.{Form}, Fields.{to_field_of}}
+use Rattle.oc_chains.specs.{declared.field.Field.{Field}, Lists.{list_of}}
+use Rattle.oc_neutral.specs.{declared.section.Section.{Section}, declared.reloc.Reloc.{Reloc}, declared.reloc.Target.{Target}, Objects.{Object}}
+use Rattle.oc_neutral.specs.{Omf.Relocs.{ByFlat, ByTarget, BySelf, fixup_row}, Rows.{Row, shift_of}, Spelling.{written_row}}
 use Rattle.oc_neutral.specs.declared.reloc.Target.TheVariants as target
-use Rattle.oc_neutral.specs.Objects.{Object}
-use Rattle.oc_neutral.specs.Omf.Relocs.{ByFlat, ByTarget, BySelf, fixup_row}
-use Rattle.oc_neutral.specs.Rows.{Row, shift_of}
-use Rattle.oc_neutral.specs.Spelling.{written_row}
-use Rattle.oc_omf.specs.declared.structures.Method.{Method}
-use Rattle.oc_omf.specs.declared.constants.TheConstants.{METHOD_SEGMENT, METHOD_GROUP, METHOD_EXTERNAL, FRAME_OF_TARGET}
+use Rattle.oc_omf.specs.{declared.structures.Method.{Method}, declared.constants.TheConstants.{METHOD_SEGMENT, METHOD_GROUP, METHOD_EXTERNAL, FRAME_OF_TARGET}}
 use Rattle.oc_omf.specs.Bytes.{fixup_bytes}
 use Rattle.oc_omf_file.specs.Fixups.{written_reloc, number_or, row_by}
 use Rattle.oc_omf_write.specs.declared.fixups.Fixup.{Fixup}

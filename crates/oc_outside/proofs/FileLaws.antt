@@ -1,14 +1,9 @@
 -- What an append does to the bytes of its file, and what it leaves beside them.
 use Rattle.std.proofs.Common.{◌≡◌, refl, sym, ap, subst, ◌∙◌, ℕ, List, [], take, Option, None, Some, Result, Ok, Err, unwrap_or}
-use Rattle.std.specs.Prelude.{IfOk, OnErr, IsSome}
-use Rattle.std.specs.Option.{option_map, ForSome}
-use Rattle.std.proofs.lemmas.Option.{same_Some, none-some}
-use Rattle.std.proofs.lemmas.Result.{IfOk-weaker}
-use Rattle.std.specs.FinMap.{get}
-use Rattle.oc_outside.specs.Held.{Held, file_of, extended, bytes_of, beside_of}
-use Rattle.oc_outside.specs.Texts.{grown}
-use Rattle.oc_outside.proofs.NameLaws.{get_put_same, put_over}
-use Rattle.oc_outside.proofs.TextLaws.{grown_told, grown_untold}
+use Rattle.std.specs.{Prelude.{IfOk, OnErr, IsSome}, Option.{option_map, ForSome}, FinMap.{get}}
+use Rattle.std.proofs.lemmas.{Option.{same_Some, none-some}, Result.{IfOk-weaker}}
+use Rattle.oc_outside.specs.{Held.{Held, file_of, extended, bytes_of, beside_of}, Texts.{grown}}
+use Rattle.oc_outside.proofs.{NameLaws.{get_put_same, put_over}, TextLaws.{grown_told, grown_untold}}
 
 -- the file is held, where files are told
 abbrev pub IsThere : List ℕ → Option Held → Type 0

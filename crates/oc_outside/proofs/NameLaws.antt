@@ -1,10 +1,8 @@
 -- Laws of a finite map from names, all by what `get` answers at each name.
 use Rattle.std.proofs.Common.{◌≡◌, refl, sym, ap, ◌∙◌, ℕ, List, Bool, true, false, cond, Option, None, Some}
-use Rattle.std.specs.Ordering.{eq_by_cmp, nat_cmp}
-use Rattle.std.specs.Cmp.Lexicographic.{slice_cmp, nat_list_cmp_total}
+use Rattle.std.specs.{Ordering.{eq_by_cmp, nat_cmp}, Cmp.Lexicographic.{slice_cmp, nat_list_cmp_total}}
 use Rattle.std.specs.FinMap.{get, same_map, get-insert, get-remove, slice_cmp-IsAntisymmetric, nat_cmp-IsAntisymmetric}
-use Rattle.std.proofs.lemmas.Map.Views.{tells_apart}
-use Rattle.std.proofs.lemmas.Cmp.{eq_by_cmp_equiv}
+use Rattle.std.proofs.lemmas.{Map.Views.{tells_apart}, Cmp.{eq_by_cmp_equiv}}
 use Rattle.oc_outside.specs.Held.{Named, put}
 
 -- whether two names are the same

@@ -1,17 +1,10 @@
 -- Laws of the maps that slots give by their names.
 use Rattle.std.proofs.Common.{◌≡◌, ℕ, suc, zero, ◌<◌, Bool, true, false, cond, not, List, [], ◌∷◌, ◌++◌, length, get_or, Option, None, Some, unwrap_or, max, Result, Ok, Err, OnOk, OnErr, refl, sym, ap, ◌∙◌, arith}
 use Rattle.std.proofs.Math.ListN.{set}
-use Rattle.std.proofs.lemmas.Bool.{false≢true, ltb-false, not-true, false_from_ne_true}
-use Rattle.std.proofs.lemmas.Option.{none-some}
-use Rattle.std.proofs.lemmas.List.Sums.{prefix_len_passes}
-use Rattle.std.proofs.lemmas.Slice.Eq.{bytes_eq-Decides}
-use Rattle.std.proofs.lemmas.List.Quantifiers.{position-Some}
-use Rattle.std.specs.Str.{bytes_eq}
-use Rattle.std.specs.Ordering.{nat_cmp}
-use Rattle.std.specs.Cmp.Lexicographic.{slice_cmp}
-use Rattle.std.specs.FinMap.{empty, get, insert, get-empty}
-use Rattle.oc_outside.specs.Held.{put, extended}
-use Rattle.oc_outside.specs.Slots.{SlotState, map_of, place_of, held_of, rooms_of, with_room}
+use Rattle.std.proofs.lemmas.{Bool.{false≢true, ltb-false, not-true, false_from_ne_true}, Option.{none-some}, List.Sums.{prefix_len_passes}}
+use Rattle.std.proofs.lemmas.{Slice.Eq.{bytes_eq-Decides}, List.Quantifiers.{position-Some}}
+use Rattle.std.specs.{Str.{bytes_eq}, Ordering.{nat_cmp}, Cmp.Lexicographic.{slice_cmp}, FinMap.{empty, get, insert, get-empty}}
+use Rattle.oc_outside.specs.{Held.{put, extended}, Slots.{SlotState, map_of, place_of, held_of, rooms_of, with_room}}
 use Rattle.oc_outside.proofs.NameLaws.{same_name, same_name-true, same_name-refl, get_put, put_over, put_there, put_swapped}
 
 -- the test of `place_of` decides whether two names are the same

@@ -1,15 +1,9 @@
 -- A file that is created and then written through a sink holds what the sink took.
 use Rattle.std.proofs.Common.{◌≡◌, refl, sym, ap, subst, ◌∙◌, inr, ℕ, List, [], take, Option, None, Some, Result}
-use Rattle.std.specs.Prelude.{OnOk, OnErr, IsSome}
-use Rattle.std.specs.FinMap.{get}
-use Rattle.std.specs.Option.{option_map}
-use Rattle.std.proofs.lemmas.Option.{same_Some, none-some}
-use Rattle.std.proofs.lemmas.Result.{on_ok_weaker, on_err_weaker}
-use Rattle.oc_outside.specs.Held.{Held, emptied, with_file, without_file, bytes_of, beside_of, HasPart}
-use Rattle.oc_outside.specs.Texts.{grown, TakesPrefix}
-use Rattle.oc_outside.proofs.NameLaws.{get_put_same, put_over, put_joined}
-use Rattle.oc_outside.proofs.TextLaws.{grown_told}
-use Rattle.oc_outside.proofs.FileLaws.{IsThere}
+use Rattle.std.specs.{Prelude.{OnOk, OnErr, IsSome}, FinMap.{get}, Option.{option_map}}
+use Rattle.std.proofs.lemmas.{Option.{same_Some, none-some}, Result.{on_ok_weaker, on_err_weaker}}
+use Rattle.oc_outside.specs.{Held.{Held, emptied, with_file, without_file, bytes_of, beside_of, HasPart}, Texts.{grown, TakesPrefix}}
+use Rattle.oc_outside.proofs.{NameLaws.{get_put_same, put_over, put_joined}, TextLaws.{grown_told}, FileLaws.{IsThere}}
 
 pub there_emptied : (name : List ℕ) (files now : Option Held) → now ≡ option_map (emptied name) files → IsThere name now
 there_emptied name None now e = λ m told. absurd (none-some m (sym e ∙ told))

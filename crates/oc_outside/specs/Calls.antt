@@ -1,6 +1,5 @@
 -- Our profile: the numbers of the calls on a device in memory, and the counts of those that fail.
-use Rattle.std.specs.Prelude.{ℕ, ◌+◌, ◌-◌, ◌^◌, ◌==◌, ◌||◌, Bool, List, min, if◌then◌else◌}
-use Rattle.std.specs.List.{list_any}
+use Rattle.std.specs.{Prelude.{ℕ, ◌+◌, ◌-◌, ◌^◌, ◌==◌, ◌||◌, Bool, List, min, if◌then◌else◌}, List.{list_any}}
 
 -- the number of the next call after so many: it stops at the last value
 abbrev pub next_call : ℕ → ℕ

@@ -1,7 +1,6 @@
 -- Our profile: the two standard streams in memory, as contracts see them.
 use Rattle.std.specs.Prelude.{ℕ, ◌||◌, Bool, List, []}
-use Rattle.oc_outside.specs.Calls.{next_call, is_due, risen}
-use Rattle.oc_outside.specs.Pages.{passes_room}
+use Rattle.oc_outside.specs.{Calls.{next_call, is_due, risen}, Pages.{passes_room}}
 
 -- the two texts, their rooms, the number of calls so far, those set to fail, and the two counts
 pub record ConsoleState : Type 0 where

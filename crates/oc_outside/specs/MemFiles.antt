@@ -2,9 +2,7 @@
 use Rattle.std.specs.Prelude.{◌≡◌, ℕ, ◌-◌, ◌||◌, Bool, List, [], ◌++◌, length, min, take, drop, is_none, refl}
 use Rattle.std.specs.Coded.{Coded, code_by, coded×, coded_ℕ, coded_list}
 use Rattle.std.specs.FinMap as map
-use Rattle.oc_outside.specs.Held.{Held, Named, file_of}
-use Rattle.oc_outside.specs.Calls.{next_call, is_due, risen}
-use Rattle.oc_outside.specs.Slots.{room_of, lacks_room}
+use Rattle.oc_outside.specs.{Held.{Held, Named, file_of}, Calls.{next_call, is_due, risen}, Slots.{room_of, lacks_room}}
 
 -- the files, the room of each name that has one, the number of calls so far, those set to fail, and the two counts
 pub record FilesState : Type 0 where

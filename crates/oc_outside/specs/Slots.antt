@@ -1,10 +1,6 @@
 -- Our profile: the files of a device in memory, one slot for each name.
-use Rattle.std.specs.Prelude.{ℕ, Bool, List, [], ◌∷◌, Option, Some, unwrap_or, max}
-use Rattle.std.specs.List.{position}
-use Rattle.std.specs.Str.{bytes_eq}
-use Rattle.std.specs.FinMap.{empty, get, insert}
-use Rattle.oc_outside.specs.Held.{Named, Held, put, file_of}
-use Rattle.oc_outside.specs.Pages.{passes_room}
+use Rattle.std.specs.{Prelude.{ℕ, Bool, List, [], ◌∷◌, Option, Some, unwrap_or, max}, List.{position}, Str.{bytes_eq}, FinMap.{empty, get, insert}}
+use Rattle.oc_outside.specs.{Held.{Named, Held, put, file_of}, Pages.{passes_room}}
 
 -- a name, its file, if that exists, and its room
 pub record SlotState : Type 0 where

@@ -1,6 +1,5 @@
 -- Our profile: texts that grow at their end, where contracts see them.
-use Rattle.std.specs.Prelude.{◌≡◌, ℕ, ◌≤◌, List, ◌++◌, length, take, Option}
-use Rattle.std.specs.Option.{option_map}
+use Rattle.std.specs.{Prelude.{◌≡◌, ℕ, ◌≤◌, List, ◌++◌, length, take, Option}, Option.{option_map}}
 
 -- the text with this piece at its end, where contracts see it
 unfoldable pub grown : List ℕ → Option (List ℕ) → Option (List ℕ)

@@ -1,27 +1,16 @@
 -- What is wrong with a section or a symbol of an object.
 use Rattle.std.proofs.Common.{◌≡◌, ℕ, ◌+◌, ◌<◌, Bool, List, [], ◌∷◌, ◌++◌, length, get_or, suc, take, Option, Some, None, refl, sym, ◌∙◌, ap, arith}
-use Rattle.std.specs.Prelude.{slice_get, IfSome}
-use Rattle.std.specs.List.{enumerate_from}
-use Rattle.std.specs.Option.{option_map, option_and_then, unwrap_or}
-use Rattle.std.proofs.lemmas.List.{length-map, take_more}
-use Rattle.std.proofs.lemmas.Option.{get_or_from_slice_get, slice_get-map, slice_get_within}
+use Rattle.std.specs.{Prelude.{slice_get, IfSome}, List.{enumerate_from}, Option.{option_map, option_and_then, unwrap_or}}
+use Rattle.std.proofs.lemmas.{List.{length-map, take_more}, Option.{get_or_from_slice_get, slice_get-map, slice_get_within}}
 use Rattle.oc_base.specs.Formats.{word_for}
-use Rattle.oc_linking.specs.declared.terms.Fallback.{Fallback}
-use Rattle.oc_linking.specs.declared.terms.Fallback.TheVariants as fallback
-use Rattle.oc_linking.specs.declared.terms.Binding.{Binding}
+use Rattle.oc_linking.specs.{declared.terms.Fallback.{Fallback}, declared.terms.Binding.{Binding}}
 use Rattle.oc_linking.specs.declared.terms.Binding.TheVariants.{Local, Global, Undefined, Common, Weak}
+use Rattle.oc_linking.specs.declared.terms.Fallback.TheVariants as fallback
 use Rattle.oc_linking.specs.Parts as parts
-use Rattle.oc_neutral.specs.declared.section.Section.{Section}
-use Rattle.oc_neutral.specs.declared.symbol.Symbol.{Symbol}
-use Rattle.oc_neutral.specs.Objects.{Object}
-use Rattle.oc_neutral.specs.Faces.{shown_binding, shown_symbol, shown_symbols}
-use Rattle.oc_neutral.specs.Invariants.{IsAlign, IsBinding, IsMember, IsObject, IsSymbol, groups_of}
-use Rattle.oc_neutral.proofs.Positions.{each_at, there_at}
-use Rattle.oc_neutral.proofs.Partly.{enumerated_at}
-use Rattle.oc_place.specs.declared.spot.Spot.{Spot}
-use Rattle.oc_place.specs.declared.spot.Outside.{Outside}
-use Rattle.oc_place.specs.Faults.{IsFor}
-use Rattle.oc_place.specs.Footprints.{Plot, Footprint, plot_of, footprint_of}
+use Rattle.oc_neutral.specs.{declared.section.Section.{Section}, declared.symbol.Symbol.{Symbol}, Objects.{Object}}
+use Rattle.oc_neutral.specs.{Faces.{shown_binding, shown_symbol, shown_symbols}, Invariants.{IsAlign, IsBinding, IsMember, IsObject, IsSymbol, groups_of}}
+use Rattle.oc_neutral.proofs.{Positions.{each_at, there_at}, Partly.{enumerated_at}}
+use Rattle.oc_place.specs.{declared.spot.Spot.{Spot}, declared.spot.Outside.{Outside}, Faults.{IsFor}, Footprints.{Plot, Footprint, plot_of, footprint_of}}
 use Rattle.oc_place.specs.Written.{Notes}
 use Rattle.oc_place.specs.Placings.{IsCommonAligned, IsPlacingOf, at_position, given_code, given_for, group_at, is_lost, nothing_given, plot_code, placing_of, section_bad, spot_for, symbol_bad}
 

@@ -2,19 +2,14 @@
 use Rattle.std.proofs.Common.{◌≡◌, ℕ, List, map, Some, sym, ◌∙◌, ap, subst, arith}
 use Rattle.std.specs.Prelude.{slice_get}
 use Rattle.std.proofs.lemmas.Option.{slice_get_within}
-use Rattle.oc_base.specs.declared.format.Word.{Word}
-use Rattle.oc_base.specs.Formats.{word_for}
-use Rattle.oc_linking.specs.Keeping.{all}
-use Rattle.oc_linking.specs.Parts.{Section, Symbol}
-use Rattle.oc_linking.specs.Placing.{IsOutside, IsPlacement, Placement, Places}
+use Rattle.oc_base.specs.{declared.format.Word.{Word}, Formats.{word_for}}
+use Rattle.oc_linking.specs.{Keeping.{all}, Parts.{Section, Symbol}, Placing.{IsOutside, IsPlacement, Placement, Places}}
 use Rattle.oc_linking.proofs.Whole.{flags-all, sections-whole, spread_in-whole}
 use Rattle.oc_neutral.specs.Faces.{shown_sections, shown_symbols, frame_of}
 use Rattle.oc_neutral.proofs.Positions.{images_same, lengths_same, there_at}
-use Rattle.oc_place.specs.Footprints.{Footprint, footprint_in, footprint_of}
-use Rattle.oc_place.specs.Placings.{outside_of, placed_in, placement_of}
+use Rattle.oc_place.specs.{Footprints.{Footprint, footprint_in, footprint_of}, Placings.{outside_of, placed_in, placement_of}}
 use Rattle.oc_place.specs.Laws.{CanLink, FileCanLink, InputCanLink}
-use Rattle.oc_place.proofs.FootprintLemmas.{footprints_agree}
-use Rattle.oc_place.proofs.LinkingLemmas.{object_can_link}
+use Rattle.oc_place.proofs.{FootprintLemmas.{footprints_agree}, LinkingLemmas.{object_can_link}}
 
 -- contents are not placed
 framed : (w : Word) (p : Placement) (k : ℕ) (s : Section) → Places w p k s → Places w p k (frame_of s)

@@ -2,13 +2,11 @@
 use Rattle.std.proofs.Common.{◌≡◌, ℕ, ◌+◌, List, [], ◌∷◌, length, map, refl, sym, ◌∙◌, ap}
 use Rattle.std.specs.List.{enumerate_from}
 use Rattle.std.proofs.lemmas.List.{length-map}
-use Rattle.oc_base.specs.declared.format.Word.{Word}
-use Rattle.oc_base.specs.Formats.{word_for}
+use Rattle.oc_base.specs.{declared.format.Word.{Word}, Formats.{word_for}}
 use Rattle.oc_linking.specs.Parts as parts
 use Rattle.oc_linking.specs.Keeping.{all}
-use Rattle.oc_neutral.specs.Objects.{Object}
+use Rattle.oc_neutral.specs.{Objects.{Object}, Dialects.{Dialect}}
 use Rattle.oc_shows.specs.Computed.{computed_section, keys_in, object_in}
-use Rattle.oc_neutral.specs.Dialects.{Dialect}
 use Rattle.oc_shows.proofs.ShownComputed.{shown_is_computed}
 use Rattle.oc_place.specs.Footprints.{Plot, Footprint, plot_in, plot_of, FootprintsAgree}
 

@@ -1,34 +1,20 @@
 -- A name is found among the names in order exactly where a symbol has it.
 use Rattle.std.proofs.Common.{◌≡◌, ℕ, ◌+◌, ◌<◌, Bool, true, false, cond, List, [], ◌∷◌, ◌++◌, length, get_or, take, Option, Some, None, Err, inl, inr, refl, sym, ◌∙◌, ap, subst, arith}
-use Rattle.std.specs.Prelude.{bytes_eq, ◌||◌, slice_get}
-use Rattle.std.specs.List.{list_any}
-use Rattle.std.specs.List.Sorted.{IsBinarySearchResult, IsPermutation, IsSorted}
-use Rattle.std.specs.Option.{option_flatten, option_map, option_map_or}
-use Rattle.std.specs.declared.cmp.Ordering.{Ordering}
-use Rattle.std.specs.declared.cmp.Ordering.TheVariants.{Less, Equal, Greater}
-use Rattle.std.specs.Ordering.{nat_cmp, is_eq}
-use Rattle.std.specs.Cmp.Lexicographic.{slice_cmp}
-use Rattle.std.proofs.lemmas.Bool.{cases_eq, cases_lt, true≢false}
-use Rattle.std.proofs.lemmas.Cmp.{nat_list_cmp_total, nat_list_eq_equiv}
-use Rattle.std.proofs.lemmas.List.{append-nil, length-map, map-append, take_all, take_more}
-use Rattle.std.proofs.lemmas.List.Elements.{All-push}
+use Rattle.std.specs.{Prelude.{bytes_eq, ◌||◌, slice_get}, List.{list_any}, List.Sorted.{IsBinarySearchResult, IsPermutation, IsSorted}}
+use Rattle.std.specs.{Option.{option_flatten, option_map, option_map_or}, declared.cmp.Ordering.{Ordering}}
+use Rattle.std.specs.{declared.cmp.Ordering.TheVariants.{Less, Equal, Greater}, Ordering.{nat_cmp, is_eq}, Cmp.Lexicographic.{slice_cmp}}
+use Rattle.std.proofs.lemmas.{Bool.{cases_eq, cases_lt, true≢false}, Cmp.{nat_list_cmp_total, nat_list_eq_equiv}}
+use Rattle.std.proofs.lemmas.{List.{append-nil, length-map, map-append, take_all, take_more}, List.Elements.{All-push}}
 use Rattle.std.proofs.lemmas.List.Folds.{list_any-append, list_any_none}
-use Rattle.std.proofs.lemmas.List.Sorted.{All-permutation, IsPermutation-map, list_any-IsPermutation, searchable_from_sorted}
-use Rattle.std.proofs.lemmas.Map.Text.{is_eq-slice_cmp}
-use Rattle.std.proofs.lemmas.Option.{get_or_from_slice_get, none-some, same_Some, slice_get-map, slice_get_within}
-use Rattle.std.proofs.lemmas.Slice.Eq.{bytes_eq-Decides}
+use Rattle.std.proofs.lemmas.{List.Sorted.{All-permutation, IsPermutation-map, list_any-IsPermutation, searchable_from_sorted}, Map.Text.{is_eq-slice_cmp}}
+use Rattle.std.proofs.lemmas.{Option.{get_or_from_slice_get, none-some, same_Some, slice_get-map, slice_get_within}, Slice.Eq.{bytes_eq-Decides}}
 use Rattle.oc_linking.specs.Parts.{is_local}
 use Rattle.oc_linking.specs.Parts as parts
-use Rattle.oc_linking.proofs.FirstFaultLaws.{first_upto_none}
-use Rattle.oc_linking.proofs.Upto.{first_upto_from}
-use Rattle.oc_neutral.specs.declared.symbol.Symbol.{Symbol}
-use Rattle.oc_neutral.specs.Objects.{Object}
-use Rattle.oc_neutral.specs.Faces.{shown_symbol, shown_symbols}
-use Rattle.oc_neutral.specs.Invariants.{AreDistinct}
+use Rattle.oc_linking.proofs.{FirstFaultLaws.{first_upto_none}, Upto.{first_upto_from}}
+use Rattle.oc_neutral.specs.{declared.symbol.Symbol.{Symbol}, Objects.{Object}, Faces.{shown_symbol, shown_symbols}, Invariants.{AreDistinct}}
 use Rattle.oc_strings.specs.Repeats.{NameList, name_at, nonlocal_name, place_of}
 use Rattle.oc_strings.proofs.RepeatLemmas.{named_within}
-use Rattle.oc_place.specs.declared.index.Named.{Named}
-use Rattle.oc_place.specs.Indexes.{AddsName, AreListed, IsIndex, IsNamed, compared, is_of, present, texts}
+use Rattle.oc_place.specs.{declared.index.Named.{Named}, Indexes.{AddsName, AreListed, IsIndex, IsNamed, compared, is_of, present, texts}}
 use Rattle.oc_place.specs.Written.{names_of, symbol_named}
 use Rattle.oc_shows.proofs.Reordered.{shown_local}
 

@@ -1,13 +1,10 @@
 -- What the lines of a text note, line by line.
 use Rattle.std.proofs.Common.{◌≡◌, ℕ, ◌+◌, ◌<◌, List, [], ◌∷◌, length, Result, Ok, Err, refl, sym, ◌∙◌, ap, subst, arith}
 use Rattle.std.specs.List.{slice_split}
-use Rattle.oc_place.specs.declared.fault.PlaceCode.TheVariants.{BadLine}
+use Rattle.oc_place.specs.{declared.fault.PlaceCode.TheVariants.{BadLine}, declared.fault.PlaceFault.{PlaceFault}, Faults.{AreAsMany, IsBadOf, IsFor}}
+use Rattle.oc_place.specs.{Footprints.{Footprint}, Written.{Notes, Bad, at_line, with_rest, is_newline, notes_from, with_line, then_by}}
 use Rattle.oc_neutral.specs.Objects.{Object}
-use Rattle.oc_place.specs.declared.fault.PlaceFault.{PlaceFault}
 use Rattle.oc_place.specs.declared.fault.PlaceFault.TheVariants as fault
-use Rattle.oc_place.specs.Faults.{AreAsMany, IsBadOf, IsFor}
-use Rattle.oc_place.specs.Footprints.{Footprint}
-use Rattle.oc_place.specs.Written.{Notes, Bad, at_line, with_rest, is_newline, notes_from, with_line, then_by}
 use Rattle.oc_place.proofs.SplitLemmas.{split_some}
 
 module _ (footprint : Footprint) where

@@ -1,39 +1,26 @@
 -- What is placed of an object is a placement and an outside map, as linking asks for them.
 use Rattle.std.proofs.Common.{◌≡◌, ℕ, ◌+◌, ◌*◌, ◌/◌, ◌%◌, ◌<◌, ◌≤◌, Bool, true, false, cond, List, length, get_or, Option, Some, None, inl, inr, refl, sym, ◌∙◌, ap, subst, arith}
-use Rattle.std.specs.Prelude.{nat_eq, nat_lt, not, slice_get}
-use Rattle.std.specs.Option.{option_and_then, option_flatten, option_map, option_map_or, unwrap_or}
+use Rattle.std.specs.{Prelude.{nat_eq, nat_lt, not, slice_get}, Option.{option_and_then, option_flatten, option_map, option_map_or, unwrap_or}}
 use Rattle.std.proofs.Math.Nat.{div-add-mod}
-use Rattle.std.proofs.lemmas.Bool.{cases_eq, cases_lt, eqb-true, ltb-false, true≢false}
-use Rattle.std.proofs.lemmas.List.{length-map}
-use Rattle.std.proofs.lemmas.Option.{get_or_from_slice_get, none-some, same_Some, slice_get-map, slice_get_within}
-use Rattle.std.proofs.lemmas.Result.{IfOk-at_ok}
-use Rattle.oc_base.specs.declared.format.Word.{Word}
-use Rattle.oc_base.specs.Formats.{word_for}
-use Rattle.oc_linking.specs.declared.terms.Binding.{Binding}
-use Rattle.oc_linking.specs.declared.terms.Binding.TheVariants.{Local, Global, Undefined, Common, Weak}
-use Rattle.oc_linking.specs.Numbers.{modulus, or_else, first_upto}
-use Rattle.oc_linking.specs.Parts as parts
-use Rattle.oc_linking.specs.Parts.{is_local}
-use Rattle.oc_linking.specs.Placing as placing
+use Rattle.std.proofs.lemmas.{Bool.{cases_eq, cases_lt, eqb-true, ltb-false, true≢false}, List.{length-map}}
+use Rattle.std.proofs.lemmas.{Option.{get_or_from_slice_get, none-some, same_Some, slice_get-map, slice_get_within}, Result.{IfOk-at_ok}}
+use Rattle.oc_base.specs.{declared.format.Word.{Word}, Formats.{word_for}}
+use Rattle.oc_linking.specs.{declared.terms.Binding.{Binding}, declared.terms.Binding.TheVariants.{Local, Global, Undefined, Common, Weak}}
+use Rattle.oc_linking.specs.{Numbers.{modulus, or_else, first_upto}, Parts.{is_local}}
 use Rattle.oc_linking.specs.Placing.{DiscardsGroups, Gives, IsOutside, IsPlacement, IsSite, Meets, Places, nowhere}
+use Rattle.oc_linking.specs.Parts as parts
+use Rattle.oc_linking.specs.Placing as placing
 use Rattle.oc_linking.proofs.FirstFaultLaws.{first_upto_none}
-use Rattle.oc_neutral.specs.declared.group.Group.{Group}
-use Rattle.oc_neutral.specs.declared.section.Section.{Section}
-use Rattle.oc_neutral.specs.Objects.{Object}
-use Rattle.oc_neutral.specs.Faces.{key_of, shown_section, shown_sections, shown_symbol, shown_symbols}
-use Rattle.oc_neutral.specs.Invariants.{HaveKeys, IsMember, IsObject}
+use Rattle.oc_neutral.specs.{declared.group.Group.{Group}, declared.section.Section.{Section}, Objects.{Object}}
+use Rattle.oc_neutral.specs.{Faces.{key_of, shown_section, shown_sections, shown_symbol, shown_symbols}, Invariants.{HaveKeys, IsMember, IsObject}}
 use Rattle.oc_strings.specs.Repeats.{name_at, nonlocal_name}
 use Rattle.oc_neutral.proofs.Positions.{there_at}
-use Rattle.oc_place.specs.declared.spot.Spot.{Spot}
-use Rattle.oc_place.specs.declared.spot.Outside.{Outside}
-use Rattle.oc_place.specs.declared.fault.PlaceCode.{PlaceCode}
+use Rattle.oc_place.specs.{declared.spot.Spot.{Spot}, declared.spot.Outside.{Outside}, declared.fault.PlaceCode.{PlaceCode}}
 use Rattle.oc_place.specs.declared.fault.PlaceCode.TheVariants.{Defined, Misaligned, PastEnd, Unnamed, Unplaced}
-use Rattle.oc_place.specs.Footprints.{Footprint, footprint_of, plot_of}
-use Rattle.oc_place.specs.Written.{Notes, Bad, symbol_named}
+use Rattle.oc_place.specs.{Footprints.{Footprint, footprint_of, plot_of}, Written.{Notes, Bad, symbol_named}}
 use Rattle.oc_place.specs.Placings.{Placing, as_site, at_position, first_bad, given_code, is_dropped, nothing_given, origin, outside_at, outside_of, placement_of, placing_of, plot_code, section_bad, spot_code, spot_for, symbol_bad, symbol_code}
 use Rattle.oc_place.specs.Laws.{CanLink, IsUnused, ObjectCanLink}
-use Rattle.oc_place.proofs.CheckLemmas.{given_is, group_is, member, section_is, spot_is}
-use Rattle.oc_place.proofs.IndexLemmas.{name_from, names, one_name, place_none, place_only}
+use Rattle.oc_place.proofs.{CheckLemmas.{given_is, group_is, member, section_is, spot_is}, IndexLemmas.{name_from, names, one_name, place_none, place_only}}
 use Rattle.oc_place.proofs.WordLemmas.{AreSmall, IsBaseSmall, IsOutsideSmall, IsSpotSmall, each_get_or, placed_noted, zero_small}
 use Rattle.oc_shows.proofs.Reordered.{shown_local}
 

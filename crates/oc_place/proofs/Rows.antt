@@ -2,21 +2,14 @@
 use Rattle.std.proofs.Common.{◌≡◌, ℕ, false, true, List, [], ◌∷◌, ◌++◌, map, Option, Some, None, Result, Ok, Err, refl}
 use Rattle.std.specs.Prelude.{codes}
 use Rattle.oc_base.specs.declared.format.Word.TheVariants.{W32}
-use Rattle.oc_linking.specs.declared.terms.Mark.TheVariants.{NoType}
-use Rattle.oc_linking.specs.declared.terms.Visibility.TheVariants.{Default}
+use Rattle.oc_linking.specs.{declared.terms.Mark.TheVariants.{NoType}, declared.terms.Visibility.TheVariants.{Default}, declared.terms.Binding.{Binding}}
+use Rattle.oc_linking.specs.{declared.terms.Binding.TheVariants.{Local, Global, Undefined, Common, Weak}, Parts.{Symbol}}
 use Rattle.oc_linking.specs.declared.terms.Value.TheVariants as value
 use Rattle.oc_linking.specs.declared.terms.Fallback.TheVariants as fallback
-use Rattle.oc_linking.specs.declared.terms.Binding.{Binding}
-use Rattle.oc_linking.specs.declared.terms.Binding.TheVariants.{Local, Global, Undefined, Common, Weak}
-use Rattle.oc_linking.specs.Parts.{Symbol}
 use Rattle.oc_place.specs.declared.fault.PlaceCode.{PlaceCode}
 use Rattle.oc_place.specs.declared.fault.PlaceCode.TheVariants.{BadLine, TooLarge, BadSection, NoSymbol, Repeated, Unplaced, Misaligned, PastEnd, Unnamed, Defined}
-use Rattle.oc_place.specs.Digits.{hex_of, decimal_of}
-use Rattle.oc_place.specs.NameTexts.{name_of}
-use Rattle.oc_place.specs.Entries.{shape_by, shape_of, line_of}
-use Rattle.oc_place.specs.Written.{Bad, with_line, notes_of}
-use Rattle.oc_place.specs.Footprints.{Footprint}
-use Rattle.oc_place.specs.Placings.{Placing, placed_in}
+use Rattle.oc_place.specs.{Digits.{hex_of, decimal_of}, NameTexts.{name_of}, Entries.{shape_by, shape_of, line_of}, Written.{Bad, with_line, notes_of}}
+use Rattle.oc_place.specs.{Footprints.{Footprint}, Placings.{Placing, placed_in}}
 
 -- a symbol of that name and binding
 abbrev symbol : List ℕ → Binding → Symbol

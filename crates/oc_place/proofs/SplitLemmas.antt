@@ -1,10 +1,7 @@
 -- Texts that are split at a byte.
 use Rattle.std.proofs.Common.{◌≡◌, ℕ, ◌+◌, ◌<◌, Bool, true, false, cond, List, [], ◌∷◌, length, length-drop, get_or, ◌-◌, take, drop, refl, sym, ◌∙◌, ap, subst, arith}
-use Rattle.std.specs.Prelude.{nat_eq}
-use Rattle.std.specs.List.{slice_split, onto_first, position_or_len}
-use Rattle.std.proofs.lemmas.Bool.{false_from_ne_true}
-use Rattle.std.proofs.lemmas.List.{get_or_default, take_all}
-use Rattle.std.proofs.lemmas.List.Splits.{slice_split_first, slice_split_none}
+use Rattle.std.specs.{Prelude.{nat_eq}, List.{slice_split, onto_first, position_or_len}}
+use Rattle.std.proofs.lemmas.{Bool.{false_from_ne_true}, List.{get_or_default, take_all}, List.Splits.{slice_split_first, slice_split_none}}
 use Rattle.std.proofs.lemmas.List.Sums.{position_or_len_is}
 use Rattle.memchr.specs.Find.{is_byte, NoneBefore, Nowhere, Passes}
 

@@ -1,23 +1,15 @@
 -- The numbers that a text notes are numbers of the word.
 use Rattle.std.proofs.Common.{◌≡◌, ℕ, zero, suc, ◌+◌, ◌<◌, Bool, true, false, cond, List, [], ◌∷◌, length, get_or, replicate, Option, Some, None, Result, Ok, Err, refl, arith}
-use Rattle.std.specs.Prelude.{IfOk, is_some, slice_set, ◌||◌}
-use Rattle.std.specs.List.{AllByRecursion, slice_split}
-use Rattle.std.specs.Option.{option_map_or}
+use Rattle.std.specs.{Prelude.{IfOk, is_some, slice_set, ◌||◌}, List.{AllByRecursion, slice_split}, Option.{option_map_or}}
 use Rattle.std.proofs.lemmas.Bool.{leb-false, or_parts}
-use Rattle.oc_base.specs.declared.format.Word.{Word}
-use Rattle.oc_base.specs.declared.format.Word.TheVariants.{W32, W64}
-use Rattle.oc_linking.specs.Numbers.{modulus}
-use Rattle.oc_linking.specs.Placing.{IsSite}
-use Rattle.oc_place.specs.declared.spot.Spot.{Spot}
-use Rattle.oc_place.specs.declared.spot.Outside.{Outside}
-use Rattle.oc_place.specs.declared.entry.PlacementLine.{PlacementLine}
-use Rattle.oc_place.specs.declared.entry.PlacementLine.TheVariants as entry
-use Rattle.oc_place.specs.declared.fault.PlaceCode.{PlaceCode}
-use Rattle.oc_place.specs.declared.fault.PlaceCode.TheVariants.{Repeated, TooLarge}
-use Rattle.oc_place.specs.Entries.{Shape, line_of}
+use Rattle.oc_base.specs.{declared.format.Word.{Word}, declared.format.Word.TheVariants.{W32, W64}}
+use Rattle.oc_linking.specs.{Numbers.{modulus}, Placing.{IsSite}}
+use Rattle.oc_place.specs.{declared.spot.Spot.{Spot}, declared.spot.Outside.{Outside}, declared.entry.PlacementLine.{PlacementLine}}
+use Rattle.oc_place.specs.{declared.fault.PlaceCode.{PlaceCode}, declared.fault.PlaceCode.TheVariants.{Repeated, TooLarge}, Entries.{Shape, line_of}}
 use Rattle.oc_place.specs.Footprints.{Footprint}
 use Rattle.oc_place.specs.Written.{Notes, Bad, at_line, is_large, is_entry_large, is_newline, is_spot_large, no_notes, notes_from, notes_of, position_in, symbol_named, then_by, with_drop, with_entry, with_form, with_got, with_image, with_line, with_numbers, with_outside, with_rest, with_spot}
 use Rattle.oc_place.specs.Placings.{Placing, as_site, first_bad, placed_by, placed_in, placing_of}
+use Rattle.oc_place.specs.declared.entry.PlacementLine.TheVariants as entry
 
 -- ... lists of which each element has something
 

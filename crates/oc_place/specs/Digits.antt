@@ -1,6 +1,5 @@
 -- Numbers of a placement's lines (our profile).
-use Rattle.std.specs.Prelude.{ℕ, Bool, ◌+◌, ◌-◌, ◌*◌, ◌&&◌, nat_le, if◌then◌else◌, List, [], ◌∷◌, length, Option, Some, None}
-use Rattle.std.specs.Option.{option_and_then}
+use Rattle.std.specs.{Prelude.{ℕ, Bool, ◌+◌, ◌-◌, ◌*◌, ◌&&◌, nat_le, if◌then◌else◌, List, [], ◌∷◌, length, Option, Some, None}, Option.{option_and_then}}
 
 -- the value of a digit of hexadecimal in lower case
 abbrev pub hex_digit : ℕ → Option ℕ

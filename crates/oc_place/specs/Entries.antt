@@ -1,11 +1,8 @@
 -- The lines of a placement (our profile).
-use Rattle.std.specs.Prelude.{ℕ, bytes_eq, codes, if◌then◌else◌, List, [], ◌∷◌, Option, Some, None}
-use Rattle.std.specs.Option.{option_map, option_and_then}
-use Rattle.oc_place.specs.declared.spot.Spot.{Spot}
-use Rattle.oc_place.specs.declared.entry.PlacementLine.{PlacementLine}
-use Rattle.oc_place.specs.declared.entry.PlacementLine.TheVariants as entry
-use Rattle.oc_place.specs.NameTexts.{name_of}
+use Rattle.std.specs.{Prelude.{ℕ, bytes_eq, codes, if◌then◌else◌, List, [], ◌∷◌, Option, Some, None}, Option.{option_map, option_and_then}}
+use Rattle.oc_place.specs.{declared.spot.Spot.{Spot}, declared.entry.PlacementLine.{PlacementLine}, NameTexts.{name_of}}
 use Rattle.oc_place.specs.Parts.{parts_of, hex_next, decimal_next, spot_next, whole, only}
+use Rattle.oc_place.specs.declared.entry.PlacementLine.TheVariants as entry
 
 -- what a line says, and the text of the name that it is about; an entry about no name has no text
 abbrev pub Shape : Type 0

@@ -1,9 +1,8 @@
 -- The fault of a placement (our profile).
 use Rattle.std.specs.Prelude.{◌≡◌, length, Option, Some, None, Result, Err, MatchResult}
 use Rattle.oc_neutral.specs.Objects.{Object}
-use Rattle.oc_place.specs.declared.fault.PlaceFault.{PlaceFault}
+use Rattle.oc_place.specs.{declared.fault.PlaceFault.{PlaceFault}, Written.{Notes, Bad}}
 use Rattle.oc_place.specs.declared.fault.PlaceFault.TheVariants as fault
-use Rattle.oc_place.specs.Written.{Notes, Bad}
 
 -- the fault is the one of the result; lack of memory needs no cause
 abbrev pub IsBadOf : {X : Type 0} → Result X Bad → PlaceFault → Type 0

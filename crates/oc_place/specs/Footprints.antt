@@ -1,18 +1,10 @@
 -- What a placement is written for: the sections, groups and symbols of an object, or of a file (our profile).
-use Rattle.std.specs.Prelude.{◌≡◌, ℕ, bytes_eq, List, map, length, Option}
-use Rattle.std.specs.List.{position_or_len}
-use Rattle.std.specs.Option.{option_map}
-use Rattle.oc_base.specs.declared.format.Word.{Word}
-use Rattle.oc_base.specs.Formats.{word_for}
+use Rattle.std.specs.{Prelude.{◌≡◌, ℕ, bytes_eq, List, map, length, Option}, List.{position_or_len}, Option.{option_map}}
+use Rattle.oc_base.specs.{declared.format.Word.{Word}, Formats.{word_for}}
 use Rattle.oc_linking.specs.Parts as parts
 use Rattle.oc_linking.specs.Keeping.{all}
-use Rattle.oc_neutral.specs.declared.section.Section.{Section}
-use Rattle.oc_neutral.specs.Objects.{Object}
-use Rattle.oc_neutral.specs.Faces.{shown_symbols}
-use Rattle.oc_neutral.specs.Dialects.{Dialect, IsDialect}
-use Rattle.oc_shows.specs.Computed.{keys_in}
-use Rattle.oc_neutral.specs.Invariants.{IsObject}
-use Rattle.oc_shows.specs.Shows.{Shows}
+use Rattle.oc_neutral.specs.{declared.section.Section.{Section}, Objects.{Object}, Faces.{shown_symbols}, Dialects.{Dialect, IsDialect}, Invariants.{IsObject}}
+use Rattle.oc_shows.specs.{Computed.{keys_in}, Shows.{Shows}}
 
 -- what placing asks of a section: its alignment, its size and the position of its group
 pub record Plot : Type 0 where

@@ -1,10 +1,6 @@
 -- The names of an object's nonlocal symbols in order, each with the position of its symbol (our profile).
-use Rattle.std.specs.Prelude.{◌≡◌, ℕ, ◌<◌, Bool, true, false, bytes_eq, List, [], ◌∷◌, ◌++◌, map, take, Some, None}
-use Rattle.std.specs.List.{All, list_any}
-use Rattle.std.specs.declared.cmp.Ordering.{Ordering}
-use Rattle.std.specs.Ordering.{nat_cmp}
-use Rattle.std.specs.Cmp.Lexicographic.{slice_cmp}
-use Rattle.std.specs.List.Sorted.{IsPermutation, IsSorted}
+use Rattle.std.specs.{Prelude.{◌≡◌, ℕ, ◌<◌, Bool, true, false, bytes_eq, List, [], ◌∷◌, ◌++◌, map, take, Some, None}, List.{All, list_any}}
+use Rattle.std.specs.{declared.cmp.Ordering.{Ordering}, Ordering.{nat_cmp}, Cmp.Lexicographic.{slice_cmp}, List.Sorted.{IsPermutation, IsSorted}}
 use Rattle.oc_strings.specs.Repeats.{NameList, name_at}
 use Rattle.oc_place.specs.declared.index.Named.{Named}
 

@@ -1,18 +1,11 @@
 -- What a text that is at no fault gives is a placement and an outside map, as linking asks for them (our profile).
 use Rattle.std.specs.Prelude.{◌≡◌, ◌≢◌, ℕ, false, List, slice_get, Some, None, Ok}
-use Rattle.oc_base.specs.declared.format.Word.{Word}
-use Rattle.oc_base.specs.Formats.{word_for}
-use Rattle.oc_linking.specs.Parts.{Section, Symbol, is_local}
-use Rattle.oc_linking.specs.Placing.{Placement, Outside, IsPlacement, IsOutside}
-use Rattle.oc_linking.specs.Keeping.{all}
+use Rattle.oc_base.specs.{declared.format.Word.{Word}, Formats.{word_for}}
+use Rattle.oc_linking.specs.{Parts.{Section, Symbol, is_local}, Placing.{Placement, Outside, IsPlacement, IsOutside}, Keeping.{all}}
 use Rattle.oc_linking.specs.Linking.{sections_in, spread_in}
-use Rattle.oc_neutral.specs.Objects.{Object}
-use Rattle.oc_neutral.specs.Faces.{shown_sections, shown_symbols}
-use Rattle.oc_neutral.specs.Dialects.{Dialect, IsDialect}
-use Rattle.oc_neutral.specs.Invariants.{IsObject}
+use Rattle.oc_neutral.specs.{Objects.{Object}, Faces.{shown_sections, shown_symbols}, Dialects.{Dialect, IsDialect}, Invariants.{IsObject}}
 use Rattle.oc_shows.specs.Shows.{Shows}
-use Rattle.oc_place.specs.Footprints.{footprint_of, footprint_in}
-use Rattle.oc_place.specs.Placings.{Placing, placed_in, placement_of, outside_of}
+use Rattle.oc_place.specs.{Footprints.{footprint_of, footprint_in}, Placings.{Placing, placed_in, placement_of, outside_of}}
 
 -- no nonlocal symbol has the name
 abbrev pub IsUnused : List Symbol → List ℕ → Type 0

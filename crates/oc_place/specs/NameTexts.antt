@@ -1,11 +1,7 @@
 -- Names as a placement's lines write them (our profile): as a listing shows them, and any byte may be `\x` and two digits.
-use Rattle.std.specs.Prelude.{ℕ, ◌+◌, ◌*◌, ◌%◌, nat_eq, nat_le, if◌then◌else◌, List, [], ◌∷◌, ◌++◌, Option, Some, None}
-use Rattle.std.specs.Option.{option_map, option_and_then}
-use Rattle.oc_place.specs.declared.name_text.Next.{Next}
-use Rattle.oc_place.specs.declared.name_text.Next.TheVariants.{Any, Letter, High, Low}
-use Rattle.oc_place.specs.declared.name_text.Step.{Step}
-use Rattle.oc_place.specs.declared.name_text.Step.TheVariants.{Part, Whole}
-use Rattle.oc_place.specs.Digits.{hex_digit}
+use Rattle.std.specs.{Prelude.{ℕ, ◌+◌, ◌*◌, ◌%◌, nat_eq, nat_le, if◌then◌else◌, List, [], ◌∷◌, ◌++◌, Option, Some, None}, Option.{option_map, option_and_then}}
+use Rattle.oc_place.specs.{declared.name_text.Next.{Next}, declared.name_text.Next.TheVariants.{Any, Letter, High, Low}, declared.name_text.Step.{Step}}
+use Rattle.oc_place.specs.{declared.name_text.Step.TheVariants.{Part, Whole}, Digits.{hex_digit}}
 
 -- what a byte is, by what comes next: any byte of a name but a blank, a control and the backslash is written as it is
 abbrev pub step_of : Next → ℕ → Option Step

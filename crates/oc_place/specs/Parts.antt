@@ -1,10 +1,7 @@
 -- The parts of a line, between its blanks (our profile).
-use Rattle.std.specs.Prelude.{ℕ, Bool, nat_eq, List, [], ◌∷◌, Option, Some, None}
-use Rattle.std.specs.List.{slice_split}
-use Rattle.std.specs.Option.{option_map, option_and_then}
+use Rattle.std.specs.{Prelude.{ℕ, Bool, nat_eq, List, [], ◌∷◌, Option, Some, None}, List.{slice_split}, Option.{option_map, option_and_then}}
 use denote.Ref.{Bor}
-use Rattle.oc_place.specs.declared.spot.Spot.{Spot}
-use Rattle.oc_place.specs.Digits.{hex_of, decimal_of}
+use Rattle.oc_place.specs.{declared.spot.Spot.{Spot}, Digits.{hex_of, decimal_of}}
 
 -- a blank
 abbrev pub is_blank : ℕ → Bool

@@ -1,20 +1,14 @@
 -- The placement that a text gives an object, with what it gives outside names, or what is at fault first (our profile).
 use Rattle.std.specs.Prelude.{◌≡◌, ℕ, ◌+◌, ◌%◌, Bool, false, not, nat_eq, nat_lt, if◌then◌else◌, List, length, map, get_or, slice_get, Option, Some, None, is_some, Result, Ok, Err}
-use Rattle.std.specs.List.{enumerate_from}
-use Rattle.std.specs.Option.{option_map, option_map_or, option_and_then, unwrap_or}
+use Rattle.std.specs.{List.{enumerate_from}, Option.{option_map, option_map_or, option_and_then, unwrap_or}}
 use Rattle.oc_base.specs.declared.format.Word.{Word}
-use Rattle.oc_linking.specs.declared.terms.Binding.{Binding}
-use Rattle.oc_linking.specs.declared.terms.Binding.TheVariants.{Local, Global, Undefined, Common, Weak}
+use Rattle.oc_linking.specs.{declared.terms.Binding.{Binding}, declared.terms.Binding.TheVariants.{Local, Global, Undefined, Common, Weak}}
 use Rattle.oc_linking.specs.Numbers.{modulus, or_else, first_upto}
 use Rattle.oc_linking.specs.Parts as parts
 use Rattle.oc_linking.specs.Placing as placing
-use Rattle.oc_neutral.specs.Objects.{Object}
-use Rattle.oc_neutral.specs.Invariants.{IsAlign}
-use Rattle.oc_place.specs.declared.spot.Spot.{Spot}
-use Rattle.oc_place.specs.declared.spot.Outside.{Outside}
-use Rattle.oc_place.specs.declared.fault.PlaceCode.{PlaceCode}
-use Rattle.oc_place.specs.declared.fault.PlaceCode.TheVariants.{Unplaced, Misaligned, PastEnd, Unnamed, Defined}
-use Rattle.oc_place.specs.Footprints.{Plot, Footprint}
+use Rattle.oc_neutral.specs.{Objects.{Object}, Invariants.{IsAlign}}
+use Rattle.oc_place.specs.{declared.spot.Spot.{Spot}, declared.spot.Outside.{Outside}, declared.fault.PlaceCode.{PlaceCode}}
+use Rattle.oc_place.specs.{declared.fault.PlaceCode.TheVariants.{Unplaced, Misaligned, PastEnd, Unnamed, Defined}, Footprints.{Plot, Footprint}}
 use Rattle.oc_place.specs.Written.{Notes, Bad, notes_of, symbol_named, then_by}
 
 -- ... what was placed

@@ -5,14 +5,10 @@ use Rattle.oc_base.specs.declared.format.Word.{Word}
 use Rattle.oc_linking.specs.Numbers.{modulus}
 use Rattle.oc_linking.specs.Parts as parts
 use Rattle.oc_strings.specs.Repeats.{NameList, nonlocal_name, place_of}
-use Rattle.oc_place.specs.declared.spot.Spot.{Spot}
-use Rattle.oc_place.specs.declared.spot.Outside.{Outside}
-use Rattle.oc_place.specs.declared.entry.PlacementLine.{PlacementLine}
+use Rattle.oc_place.specs.{declared.spot.Spot.{Spot}, declared.spot.Outside.{Outside}, declared.entry.PlacementLine.{PlacementLine}}
+use Rattle.oc_place.specs.{declared.fault.PlaceCode.{PlaceCode}, declared.fault.PlaceCode.TheVariants.{BadLine, TooLarge, BadSection, NoSymbol, Repeated}}
+use Rattle.oc_place.specs.{Entries.{Shape, line_of}, Footprints.{Footprint}}
 use Rattle.oc_place.specs.declared.entry.PlacementLine.TheVariants as entry
-use Rattle.oc_place.specs.declared.fault.PlaceCode.{PlaceCode}
-use Rattle.oc_place.specs.declared.fault.PlaceCode.TheVariants.{BadLine, TooLarge, BadSection, NoSymbol, Repeated}
-use Rattle.oc_place.specs.Entries.{Shape, line_of}
-use Rattle.oc_place.specs.Footprints.{Footprint}
 
 -- what the lines so far note
 pub record Notes : Type 0 where

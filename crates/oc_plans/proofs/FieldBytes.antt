@@ -1,35 +1,16 @@
 -- The bytes of a section in which the numbers of its fields are written, field by field.
 use Rattle.std.proofs.Common.{◌≡◌, ℕ, ◌+◌, ◌-◌, ◌/◌, ◌%◌, ◌^◌, ◌<◌, ◌≤◌, Bool, true, false, cond, nat_eq, nat_le, nat_lt, inl, inr, List, [], ◌∷◌, length, map, set, get_or, Option, Some, None, refl, sym, ◌∙◌, ap, subst, arith}
 use mathlib.Core.Path.{fun_ext}
-use Rattle.std.specs.Prelude.{slice_get}
-use Rattle.std.specs.List.{AllByRecursion}
-use Rattle.std.specs.Option.{option_map, option_and_then, unwrap_or}
-use Rattle.std.proofs.lemmas.Bool.{cases_lt, eqb-true}
-use Rattle.std.proofs.lemmas.Bool.Decides.{nat_tests}
+use Rattle.std.specs.{Prelude.{slice_get}, List.{AllByRecursion}, Option.{option_map, option_and_then, unwrap_or}}
+use Rattle.std.proofs.lemmas.{Bool.{cases_lt, eqb-true}, Bool.Decides.{nat_tests}, List.{ext_get_or}, Option.{none-some, same_Some, get_or_from_slice_get}}
 use Rattle.std.proofs.Math.Seq.{map-set_same}
-use Rattle.std.proofs.lemmas.List.{ext_get_or}
-use Rattle.std.proofs.lemmas.Option.{none-some, same_Some, get_or_from_slice_get}
-use Rattle.oc_linking.specs.declared.terms.Patch.{Patch}
-use Rattle.oc_linking.specs.Fits.{bytes_of, stored}
-use Rattle.oc_linking.specs.Images.{byte_by, byte_upto, overlay}
-use Rattle.oc_linking.specs.Shows.{Apart}
-use Rattle.oc_linking.specs.Numbers.{first_upto}
-use Rattle.oc_linking.proofs.Overlay.{length-overlay}
-use Rattle.oc_linking.proofs.Storing.{byte_of_image, byte-of_field, others_stay}
-use Rattle.oc_chains.specs.declared.field.Field.{Field}
-use Rattle.oc_chains.specs.Fields.{end_of, FollowFrom}
-use Rattle.oc_chains.specs.Lists.{Lists, list_of}
-use Rattle.oc_neutral.specs.declared.section.Section.{Section}
-use Rattle.oc_neutral.specs.declared.reloc.Reloc.{Reloc}
-use Rattle.oc_neutral.specs.Building.{with_number, written}
-use Rattle.oc_neutral.specs.Constants.{EndsWithin, IsWide, LieWithin, with_contents}
-use Rattle.oc_neutral.specs.Invariants.{IsObject}
-use Rattle.oc_neutral.specs.Objects.{Object, reloc_among}
-use Rattle.oc_neutral.proofs.ConstantObject.{within}
-use Rattle.oc_neutral.proofs.Partly.{partly, partly_all, partly_more, partly_next}
-use Rattle.oc_neutral.proofs.Positions.{images_same, lengths_same, there_at}
-use Rattle.oc_neutral.proofs.SortedFields.{found_first, other_first, none_before}
-use Rattle.oc_neutral.proofs.Standing.{ends_by}
+use Rattle.oc_linking.specs.{declared.terms.Patch.{Patch}, Fits.{bytes_of, stored}, Images.{byte_by, byte_upto, overlay}, Shows.{Apart}, Numbers.{first_upto}}
+use Rattle.oc_linking.proofs.{Overlay.{length-overlay}, Storing.{byte_of_image, byte-of_field, others_stay}}
+use Rattle.oc_chains.specs.{declared.field.Field.{Field}, Fields.{end_of, FollowFrom}, Lists.{Lists, list_of}}
+use Rattle.oc_neutral.specs.{declared.section.Section.{Section}, declared.reloc.Reloc.{Reloc}, Building.{with_number, written}}
+use Rattle.oc_neutral.specs.{Constants.{EndsWithin, IsWide, LieWithin, with_contents}, Invariants.{IsObject}, Objects.{Object, reloc_among}}
+use Rattle.oc_neutral.proofs.{ConstantObject.{within}, Partly.{partly, partly_all, partly_more, partly_next}, Positions.{images_same, lengths_same, there_at}}
+use Rattle.oc_neutral.proofs.{SortedFields.{found_first, other_first, none_before}, Standing.{ends_by}}
 use Rattle.oc_neutral.proofs.WrittenBytes.{length-written, written-before, written-behind, written-inside}
 use Rattle.oc_plans.specs.Numbered.{AreAll, Numbering, all_with_numbers, patch_by, patches_by, section_with_numbers, with_numbers}
 

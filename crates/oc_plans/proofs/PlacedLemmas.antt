@@ -1,7 +1,6 @@
 -- Things that are laid, and the files of their parts.
 use Rattle.std.proofs.Common.{◌≡◌, ℕ, zero, suc, ◌+◌, ◌-◌, ◌<◌, ◌≤◌, List, [], ◌∷◌, ◌++◌, length, map, get_or, replicate, Option, Some, refl, sym, ◌∙◌, ap, subst, arith}
-use Rattle.std.specs.Prelude.{flat_map}
-use Rattle.std.specs.List.{AllByRecursion}
+use Rattle.std.specs.{Prelude.{flat_map}, List.{AllByRecursion}}
 use Rattle.std.proofs.lemmas.List.{length-map}
 use Rattle.oc_shelf.specs.declared.writing.layout.Layout.{Layout}
 use Rattle.oc_shelf.specs.Writing.Parts.{Laid, laid, laid_end, behind, joined, aligned, table_of, file_of, pieces_at, pieces_by, AreInOrder, AreLaid, IsPlaced}

@@ -1,26 +1,14 @@
 -- An object of one section of data, and nothing else, is one, and can be fitted to every format of its word.
 use Rattle.std.proofs.Common.{◌≡◌, ◌≢◌, refl, ℕ, zero, suc, true, false, true≢false, [], ◌∷◌, Option, Some, None, Ok, sym, subst, ◌∙◌, ap, arith, codes}
-use Rattle.std.specs.Prelude.{slice_get}
-use Rattle.std.specs.List.{AllByRecursion}
+use Rattle.std.specs.{Prelude.{slice_get}, List.{AllByRecursion}}
 use Rattle.std.proofs.lemmas.Option.{none-some, same_Some}
-use Rattle.oc_base.specs.declared.format.Format.{Format}
-use Rattle.oc_base.specs.declared.format.Word.{Word}
-use Rattle.oc_base.specs.declared.format.Word.TheVariants.{W32, W64}
-use Rattle.oc_base.specs.Formats.{word_for}
-use Rattle.oc_linking.specs.declared.terms.Kind.{Kind}
-use Rattle.oc_linking.specs.declared.terms.Kind.TheVariants.{Data, Note}
-use Rattle.oc_chains.specs.declared.field.Field.{Field}
-use Rattle.oc_chains.specs.Lists.{Lists, list_of}
-use Rattle.oc_neutral.specs.declared.fault.BuildFault.{BuildFault}
-use Rattle.oc_neutral.specs.declared.reloc.Reloc.{Reloc}
-use Rattle.oc_neutral.specs.declared.section.Section.{Section}
-use Rattle.oc_neutral.specs.Building.{Draft, empty_draft, limit_passed, section_added, section_by}
-use Rattle.oc_neutral.specs.Elf.Family.{elf_gives}
-use Rattle.oc_neutral.specs.Elf.Kinds.{elf_kind}
+use Rattle.oc_base.specs.{declared.format.Format.{Format}, declared.format.Word.{Word}, declared.format.Word.TheVariants.{W32, W64}, Formats.{word_for}}
+use Rattle.oc_linking.specs.{declared.terms.Kind.{Kind}, declared.terms.Kind.TheVariants.{Data, Note}}
+use Rattle.oc_chains.specs.{declared.field.Field.{Field}, Lists.{Lists, list_of}}
+use Rattle.oc_neutral.specs.{declared.fault.BuildFault.{BuildFault}, declared.reloc.Reloc.{Reloc}, declared.section.Section.{Section}}
+use Rattle.oc_neutral.specs.{Building.{Draft, empty_draft, limit_passed, section_added, section_by}, Elf.Family.{elf_gives}, Elf.Kinds.{elf_kind}}
+use Rattle.oc_neutral.specs.{GivenTags.{can_have, is_blank_type}, Invariants.{AreBegun, IsComplete, IsHinted, NamesOriginal}, Objects.{Object}}
 use Rattle.oc_target.specs.Fitted.{CanFit}
-use Rattle.oc_neutral.specs.GivenTags.{can_have, is_blank_type}
-use Rattle.oc_neutral.specs.Invariants.{AreBegun, IsComplete, IsHinted, NamesOriginal}
-use Rattle.oc_neutral.specs.Objects.{Object}
 use Rattle.oc_shows.specs.Readable.{IsReadable}
 use Rattle.oc_neutral.proofs.MoreSections.{sectioned}
 use Rattle.oc_plans.specs.Alone.{IsData, elf_of}

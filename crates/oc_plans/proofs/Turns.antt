@@ -1,7 +1,6 @@
 -- Turns of loops that add to a list what is made of a list of things, by their positions.
 use Rattle.std.proofs.Common.{◌≡◌, ℕ, suc, ◌+◌, Bool, true, false, cond, List, [], ◌∷◌, ◌++◌, length, map, drop, Option, Some, refl, sym, ◌∙◌, ap}
-use Rattle.std.specs.Prelude.{slice_get}
-use Rattle.std.specs.List.{enumerate_from, filter}
+use Rattle.std.specs.{Prelude.{slice_get}, List.{enumerate_from, filter}}
 use Rattle.oc_shelf.specs.Writing.Parts.{laid}
 use Rattle.oc_target.proofs.Giving.{more_given, all_given}
 use Rattle.oc_neutral.proofs.FieldLists.{drop_here}

@@ -1,8 +1,6 @@
 -- An object of one section of data, and nothing else.
 use Rattle.std.specs.Prelude.{◌≡◌, codes, None}
-use Rattle.oc_base.specs.declared.format.Format.{Format}
-use Rattle.oc_base.specs.declared.format.Format.TheVariants.{Elf32, Elf64}
-use Rattle.oc_base.specs.declared.format.Word.{Word}
+use Rattle.oc_base.specs.{declared.format.Format.{Format}, declared.format.Format.TheVariants.{Elf32, Elf64}, declared.format.Word.{Word}}
 use Rattle.oc_base.specs.declared.format.Word.TheVariants.{W32, W64}
 use Rattle.oc_linking.specs.declared.terms.Kind.TheVariants.{Data}
 use Rattle.oc_neutral.specs.declared.section.Section.{Section}

@@ -1,15 +1,8 @@
 -- Sections with the numbers of their relocations in their fields.
-use Rattle.std.specs.Prelude.{ℕ, List, map, Option}
-use Rattle.std.specs.List.{AllByRecursion, enumerate_from}
-use Rattle.std.specs.Option.{option_map}
-use Rattle.oc_linking.specs.declared.terms.Patch.{Patch}
-use Rattle.oc_linking.specs.Images.{overlay}
-use Rattle.oc_chains.specs.declared.field.Field.{Field}
-use Rattle.oc_chains.specs.Lists.{Lists, list_of}
-use Rattle.oc_neutral.specs.declared.section.Section.{Section}
-use Rattle.oc_neutral.specs.declared.reloc.Reloc.{Reloc}
-use Rattle.oc_neutral.specs.Constants.{with_contents}
-use Rattle.oc_neutral.specs.Objects.{reloc_among}
+use Rattle.std.specs.{Prelude.{ℕ, List, map, Option}, List.{AllByRecursion, enumerate_from}, Option.{option_map}}
+use Rattle.oc_linking.specs.{declared.terms.Patch.{Patch}, Images.{overlay}}
+use Rattle.oc_chains.specs.{declared.field.Field.{Field}, Lists.{Lists, list_of}}
+use Rattle.oc_neutral.specs.{declared.section.Section.{Section}, declared.reloc.Reloc.{Reloc}, Constants.{with_contents}, Objects.{reloc_among}}
 
 -- the number in the field of a relocation, by the position of its section, its offset, and itself
 abbrev pub Numbering : Type 0

@@ -1,6 +1,5 @@
 -- Lists whose items are set one after another.
-use Rattle.std.specs.Prelude.{◌≡◌, ℕ, ◌<◌, Bool, false, if◌then◌else◌, nat_eq, List, length, slice_index_or, Option}
-use Rattle.std.specs.Option.{option_map_or}
+use Rattle.std.specs.{Prelude.{◌≡◌, ℕ, ◌<◌, Bool, false, if◌then◌else◌, nat_eq, List, length, slice_index_or, Option}, Option.{option_map_or}}
 
 -- the list has this value at the positions where a test holds, and what it had elsewhere
 abbrev pub IsSetWhere : {A : Type 0} → (ℕ → Bool) → A → A → List A → List A → Type 0

@@ -1,8 +1,7 @@
 -- What holds of every run of a program (our profile).
 use Rattle.std.specs.Prelude.{◌≡◌, ℕ, ◌<◌, ◌≤◌, ◌⊎◌, List}
 use Rattle.oc_outside.specs.Causes.{Rose}
-use Rattle.oc_runs.specs.States.{State}
-use Rattle.oc_runs.specs.Texts.{Tells, input_text, output_text, memory_text}
+use Rattle.oc_runs.specs.{States.{State}, Texts.{Tells, input_text, output_text, memory_text}}
 
 -- no write failed in a run that ended with the status
 abbrev pub LeavesFiles : ℕ → Type 0

@@ -1,8 +1,6 @@
 -- An example of a stage: structures that may not be worth more than a limit together.
 use Rattle.std.specs.Prelude.{ℕ, List, [], ◌∷◌, length, slice_index_or}
-use Rattle.oc_base.specs.declared.code.Code.TheVariants.{LimitBytes}
-use Rattle.oc_base.specs.declared.fault.Fault.{Fault}
-use Rattle.oc_base.specs.declared.fault.Phase.TheVariants.{Section}
+use Rattle.oc_base.specs.{declared.code.Code.TheVariants.{LimitBytes}, declared.fault.Fault.{Fault}, declared.fault.Phase.TheVariants.{Section}}
 use Rattle.oc_linking.specs.FirstFault.{Stage}
 use Rattle.oc_shelf.specs.Reading.Sums.{passes}
 

@@ -3,16 +3,10 @@ use Rattle.std.proofs.Common.{◌≡◌, ℕ, ◌+◌, true, false, List, [], �
 use Rattle.std.specs.Prelude.{if◌then◌else◌, nat_eq}
 use Rattle.oc_base.specs.Numbers.{number_at, bytes_of_number}
 use Rattle.oc_linking.specs.FirstFault.{first_fault, stage_fault}
-use Rattle.oc_shelf.specs.Reading.Collected.{collected, position_in}
-use Rattle.oc_shelf.proofs.Example.{passed_at, weighed}
-use Rattle.oc_shelf.specs.Reading.Firsts.{first_keyed}
-use Rattle.oc_shelf.specs.Reading.Rows.{rows}
-use Rattle.oc_shelf.specs.Reading.Spans.{meets}
-use Rattle.oc_shelf.specs.Reading.Steps.{step_place}
-use Rattle.oc_shelf.specs.Reading.Texts.{short, text_at}
-use Rattle.oc_shelf.specs.Writing.Packed.{packed}
+use Rattle.oc_shelf.specs.{Reading.Collected.{collected, position_in}, Reading.Firsts.{first_keyed}, Reading.Rows.{rows}, Reading.Spans.{meets}}
+use Rattle.oc_shelf.specs.{Reading.Steps.{step_place}, Reading.Texts.{short, text_at}, Writing.Packed.{packed}}
 use Rattle.oc_shelf.specs.Writing.Parts.{Laid, aligned, joined, laid, laid_end, place_where}
-use Rattle.oc_shelf.proofs.WritingLaws.WindowLemmas.{window}
+use Rattle.oc_shelf.proofs.{Example.{passed_at, weighed}, WritingLaws.WindowLemmas.{window}}
 
 -- 2, 3 and 5 pass a limit of 9 at the last of them; the second stage is judged after the first
 within : stage_fault (weighed (2 ∷ 3 ∷ 4 ∷ []) 9) ≡ None

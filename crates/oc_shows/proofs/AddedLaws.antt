@@ -2,21 +2,12 @@
 use Rattle.std.proofs.Common.{◌≡◌, ℕ, ◌+◌, ◌<◌, ◌≤◌, Bool, true, false, cond, List, length, take, get_or, Option, None, Some, Ok, refl, sym, ◌∙◌, ap, arith, inl, inr}
 use Rattle.std.specs.Prelude.{◌&&◌, ◌||◌, nat_eq, nat_lt}
 use Rattle.std.proofs.Math.Seq.{take-length}
-use Rattle.std.proofs.lemmas.Bool.{cases_eq, eq-eqb, eqb-true, ne_eqb, true≢false}
-use Rattle.std.proofs.lemmas.Bool.Decides.{nat_tests}
-use Rattle.std.proofs.lemmas.List.Folds.{list_any_more}
-use Rattle.std.proofs.lemmas.Option.{none-some}
-use Rattle.oc_linking.specs.declared.terms.Keep.{Keep}
-use Rattle.oc_linking.specs.Rules.{Field}
-use Rattle.oc_neutral.specs.declared.reloc.Reloc.{Reloc}
-use Rattle.oc_neutral.specs.Building.{Draft, reloc_added}
+use Rattle.std.proofs.lemmas.{Bool.{cases_eq, eq-eqb, eqb-true, ne_eqb, true≢false}, Bool.Decides.{nat_tests}, List.Folds.{list_any_more}, Option.{none-some}}
+use Rattle.oc_linking.specs.{declared.terms.Keep.{Keep}, Rules.{Field}}
+use Rattle.oc_neutral.specs.{declared.reloc.Reloc.{Reloc}, Building.{Draft, reloc_added}, Dialects.{Dialect, kept_fields}, Invariants.{CanAdd}}
 use Rattle.oc_shows.specs.Built.{AreApart, AreOfFile, DifferencesFit, RelocMap, HasAdded, IsField, IsStarted, and_one}
-use Rattle.oc_neutral.specs.Dialects.{Dialect, kept_fields}
-use Rattle.oc_neutral.specs.Invariants.{CanAdd}
-use Rattle.oc_shows.proofs.BuiltSteps.{added_more, added_same, can_still}
-use Rattle.oc_shows.proofs.CleanLaws.{clean_is_added}
-use Rattle.oc_shelf.specs.declared.reading.order.PlacedEntry.{PlacedEntry}
-use Rattle.oc_shelf.specs.Reading.Order.{is_among}
+use Rattle.oc_shows.proofs.{BuiltSteps.{added_more, added_same, can_still}, CleanLaws.{clean_is_added}}
+use Rattle.oc_shelf.specs.{declared.reading.order.PlacedEntry.{PlacedEntry}, Reading.Order.{is_among}}
 
 -- what is given for some places alone
 abbrev pub given_where : RelocMap → (ℕ → ℕ → Bool) → RelocMap

@@ -1,39 +1,20 @@
 -- An object whose fields are read again is shown: it is what is built of the file, with its own relocations.
 use Rattle.std.proofs.Common.{◌≡◌, ℕ, zero, suc, ◌+◌, ◌/◌, ◌%◌, ◌^◌, ◌<◌, ◌≤◌, ◌⊎◌, inl, inr, Bool, true, false, cond, List, [], ◌∷◌, length, map, get_or, replicate, Option, Some, None, refl, sym, ◌∙◌, ap, arith}
-use Rattle.std.specs.Prelude.{slice_get}
-use Rattle.std.specs.List.{AllByRecursion}
-use Rattle.std.specs.Option.{option_map, option_and_then, option_map_or}
+use Rattle.std.specs.{Prelude.{slice_get}, List.{AllByRecursion}, Option.{option_map, option_and_then, option_map_or}}
 use Rattle.std.proofs.Math.Nat.{zero-div}
-use Rattle.std.proofs.lemmas.Bool.{cases_lt}
-use Rattle.std.proofs.lemmas.Grind.{same_number_lists}
-use Rattle.std.proofs.lemmas.List.{get_or_past, length-map, length-replicate}
+use Rattle.std.proofs.lemmas.{Bool.{cases_lt}, Grind.{same_number_lists}, List.{get_or_past, length-map, length-replicate}}
 use Rattle.std.proofs.lemmas.Option.{none-some, same_Some, slice_get_within, slice_get-map}
-use Rattle.oc_linking.specs.Fits.{bytes_of}
-use Rattle.oc_linking.specs.Keeping.{all}
+use Rattle.oc_linking.specs.{Fits.{bytes_of}, Keeping.{all}}
 use Rattle.oc_linking.specs.Parts as parts
-use Rattle.oc_chains.specs.declared.field.Field.{Field}
-use Rattle.oc_chains.specs.Lists.{list_of}
-use Rattle.oc_neutral.specs.declared.group.Group.{Group}
-use Rattle.oc_neutral.specs.declared.section.Section.{Section}
-use Rattle.oc_neutral.specs.declared.reloc.Reloc.{Reloc}
-use Rattle.oc_neutral.specs.Objects.{Object, reloc_among, reloc_at}
-use Rattle.oc_neutral.specs.Building.{is_zero, stored_size}
-use Rattle.oc_neutral.specs.Invariants.{HasItsBytes, IsHeld, IsObject}
-use Rattle.oc_neutral.specs.Faces.{contents_of, shown_section, shown_sections, frame_of}
-use Rattle.oc_neutral.specs.Dialects.{Dialect}
-use Rattle.oc_shows.specs.Shows.{Shows}
-use Rattle.oc_shows.specs.Built.{IsFree, IsGiven}
-use Rattle.oc_shows.specs.Again.{HasContents, IsCovered, IsReadAgain, ReadAgainShows}
-use Rattle.oc_neutral.proofs.Added.{kept_of}
-use Rattle.oc_neutral.proofs.Adding.{wide_enough}
-use Rattle.oc_shows.proofs.Blank.{bytes_under, found_field}
-use Rattle.oc_shows.proofs.BuiltContents.{content-stored, content-zero, long, mapped_at, zeros_at}
-use Rattle.oc_shows.proofs.BuiltLaws.{showing_shows}
-use Rattle.oc_neutral.proofs.Standing.{wide, ends_by}
-use Rattle.oc_neutral.proofs.FoundRelocs.{found_at}
-use Rattle.oc_neutral.proofs.Positions.{each_at, images_same, lengths_same, lists_same, there_at}
-use Rattle.oc_shows.proofs.Showing.{IsBase, IsShowing, left_in, normal_in, stays, stored_at, StaysAt}
-use Rattle.oc_neutral.proofs.WrittenBytes.{byte_at}
+use Rattle.oc_chains.specs.{declared.field.Field.{Field}, Lists.{list_of}}
+use Rattle.oc_neutral.specs.{declared.group.Group.{Group}, declared.section.Section.{Section}, declared.reloc.Reloc.{Reloc}}
+use Rattle.oc_neutral.specs.{Objects.{Object, reloc_among, reloc_at}, Building.{is_zero, stored_size}, Invariants.{HasItsBytes, IsHeld, IsObject}}
+use Rattle.oc_neutral.specs.{Faces.{contents_of, shown_section, shown_sections, frame_of}, Dialects.{Dialect}}
+use Rattle.oc_shows.specs.{Shows.{Shows}, Built.{IsFree, IsGiven}, Again.{HasContents, IsCovered, IsReadAgain, ReadAgainShows}}
+use Rattle.oc_neutral.proofs.{Added.{kept_of}, Adding.{wide_enough}, Standing.{wide, ends_by}, FoundRelocs.{found_at}}
+use Rattle.oc_neutral.proofs.{Positions.{each_at, images_same, lengths_same, lists_same, there_at}, WrittenBytes.{byte_at}}
+use Rattle.oc_shows.proofs.{Blank.{bytes_under, found_field}, BuiltContents.{content-stored, content-zero, long, mapped_at, zeros_at}}
+use Rattle.oc_shows.proofs.{BuiltLaws.{showing_shows}, Showing.{IsBase, IsShowing, left_in, normal_in, stays, stored_at, StaysAt}}
 
 -- a section with other contents
 abbrev refill : Section → List ℕ → Section

@@ -1,17 +1,13 @@
 -- The groups of a file, begun one after the other in the order of their first members.
 use Rattle.std.proofs.Common.{◌≡◌, ℕ, zero, suc, ◌+◌, ◌<◌, ◌≤◌, Bool, true, false, cond, List, [], ◌∷◌, ◌++◌, length, map, set, Option, None, Some, refl, sym, ◌∙◌, ap, subst, arith, inl, inr}
-use Rattle.std.specs.Prelude.{◌||◌, bytes_eq, is_some, slice_index_or}
-use Rattle.std.specs.List.{position_or_len}
-use Rattle.std.proofs.lemmas.Bool.{cases_eq, true≢false}
-use Rattle.std.proofs.lemmas.List.{append-nil, get_or-set_other, get_or-set_same, length-map, map-append}
+use Rattle.std.specs.{Prelude.{◌||◌, bytes_eq, is_some, slice_index_or}, List.{position_or_len}}
+use Rattle.std.proofs.lemmas.{Bool.{cases_eq, true≢false}, List.{append-nil, get_or-set_other, get_or-set_same, length-map, map-append}}
 use Rattle.std.proofs.lemmas.Slice.Eq.{bytes_eq-Decides}
 use Rattle.oc_base.specs.Strings.{is_given}
 use Rattle.oc_linking.specs.Parts as parts
 use Rattle.oc_shows.specs.Computed.{keys_after}
-use Rattle.oc_shows.proofs.KeyListLemmas.{new_last}
-use Rattle.oc_shows.proofs.KeysMore.{keys_none, keys_some, position_stays}
-use Rattle.oc_shelf.specs.Reading.Collected.{collected}
-use Rattle.oc_shelf.specs.Reading.Slots.{place_in}
+use Rattle.oc_shows.proofs.{KeyListLemmas.{new_last}, KeysMore.{keys_none, keys_some, position_stays}}
+use Rattle.oc_shelf.specs.{Reading.Collected.{collected}, Reading.Slots.{place_in}}
 use Rattle.oc_shelf.proofs.ReadingLaws.CollectedLemmas.{collected-none, collected-some, length-collected}
 
 -- ... slots

@@ -1,43 +1,20 @@
 -- The bytes of an object are zero under its fields, and objects whose symbols have the same numbers have the same patches.
 use Rattle.std.proofs.Common.{◌≡◌, ℕ, zero, suc, ◌+◌, ◌-◌, ◌/◌, ◌%◌, ◌^◌, ◌<◌, ◌≤◌, true, false, cond, List, [], ◌∷◌, length, replicate, get_or, slice_get, Option, Some, None, refl, sym, ◌∙◌, ap, subst, arith}
-use Rattle.std.specs.Prelude.{eqb}
-use Rattle.std.specs.List.{AllByRecursion}
-use Rattle.std.specs.Option.{option_map, option_map_or, unwrap_or}
+use Rattle.std.specs.{Prelude.{eqb}, List.{AllByRecursion}, Option.{option_map, option_map_or, unwrap_or}}
 use Rattle.std.proofs.Math.Nat.{zero-div}
-use Rattle.std.proofs.lemmas.Bool.{eqb-true}
-use Rattle.std.proofs.lemmas.List.{ext_get_or}
-use Rattle.std.proofs.lemmas.Option.{none-some, same_Some, slice_get_within}
-use Rattle.oc_base.specs.declared.format.Word.{Word}
-use Rattle.oc_base.specs.Formats.{word_for}
-use Rattle.oc_linking.specs.declared.terms.Patch.{Patch}
-use Rattle.oc_linking.specs.Fits.{bytes_of}
-use Rattle.oc_linking.specs.Numbers.{minus}
-use Rattle.oc_linking.specs.Placing.{Placement}
-use Rattle.oc_linking.specs.Values.{Valuation, worthless}
-use Rattle.oc_linking.specs.Rules.{Symbolic}
-use Rattle.oc_linking.specs.Images.{byte_by, byte_upto, overlay}
-use Rattle.oc_linking.specs.Linking.{patch_of}
-use Rattle.oc_linking.specs.Shows.{blank, under_of, unders}
-use Rattle.oc_linking.proofs.Apart.{byte_from}
-use Rattle.oc_linking.proofs.Overlay.{length-overlay}
-use Rattle.oc_linking.proofs.Storing.{byte_of_image, byte_of_field}
-use Rattle.oc_linking.proofs.Upto.{first_upto_from}
+use Rattle.std.proofs.lemmas.{Bool.{eqb-true}, List.{ext_get_or}, Option.{none-some, same_Some, slice_get_within}}
+use Rattle.oc_base.specs.{declared.format.Word.{Word}, Formats.{word_for}}
+use Rattle.oc_linking.specs.{declared.terms.Patch.{Patch}, Fits.{bytes_of}, Numbers.{minus}, Placing.{Placement}, Values.{Valuation, worthless}}
+use Rattle.oc_linking.specs.{Rules.{Symbolic}, Images.{byte_by, byte_upto, overlay}, Linking.{patch_of}, Shows.{blank, under_of, unders}}
+use Rattle.oc_linking.proofs.{Apart.{byte_from}, Overlay.{length-overlay}, Storing.{byte_of_image, byte_of_field}, Upto.{first_upto_from}}
 use Rattle.oc_algebra.specs.Residues.{residue_of}
-use Rattle.oc_chains.specs.declared.field.Field.{Field}
-use Rattle.oc_chains.specs.Lists.{Lists, list_of}
-use Rattle.oc_neutral.specs.declared.section.Section.{Section}
-use Rattle.oc_neutral.specs.declared.symbol.Symbol.{Symbol}
-use Rattle.oc_neutral.specs.declared.reloc.Target.{Target}
+use Rattle.oc_chains.specs.{declared.field.Field.{Field}, Lists.{Lists, list_of}}
+use Rattle.oc_neutral.specs.{declared.section.Section.{Section}, declared.symbol.Symbol.{Symbol}, declared.reloc.Target.{Target}, declared.reloc.Reloc.{Reloc}}
+use Rattle.oc_neutral.specs.{Objects.{Object, reloc_among, reloc_at}, Building.{is_zero}, Invariants.{IsHeld, IsObject}}
+use Rattle.oc_neutral.specs.{Worth.{worth_at, target_worth, base_of, less_of, residue_at}, Faces.{contents_of, field_of, named_of, number_of}}
 use Rattle.oc_neutral.specs.declared.reloc.Target.TheVariants as target
-use Rattle.oc_neutral.specs.declared.reloc.Reloc.{Reloc}
-use Rattle.oc_neutral.specs.Objects.{Object, reloc_among, reloc_at}
-use Rattle.oc_neutral.specs.Building.{is_zero}
-use Rattle.oc_neutral.specs.Invariants.{IsHeld, IsObject}
-use Rattle.oc_neutral.specs.Worth.{worth_at, target_worth, base_of, less_of, residue_at}
-use Rattle.oc_neutral.specs.Faces.{contents_of, field_of, named_of, number_of}
 use Rattle.oc_shows.specs.Shows.{patches_of}
-use Rattle.oc_neutral.proofs.Mapped.{from_mapped}
-use Rattle.oc_neutral.proofs.Positions.{there_at}
+use Rattle.oc_neutral.proofs.{Mapped.{from_mapped}, Positions.{there_at}}
 
 -- an image whose fields store what stands there
 overlay_stays : (o : ℕ → Option Patch) (xs : List ℕ) → ((i x : ℕ) → byte_upto o i 8 ≡ Some x → get_or xs i 0 ≡ x) → overlay o 0 xs ≡ xs

@@ -1,40 +1,19 @@
 -- The contents of an object that holds what is given are the file's, with constants in folded fields and zeros under the others.
 use Rattle.std.proofs.Common.{◌≡◌, ℕ, zero, suc, ◌+◌, ◌-◌, ◌/◌, ◌%◌, ◌^◌, ◌<◌, ◌⊎◌, Bool, true, false, cond, List, [], ◌∷◌, length, map, get_or, replicate, Option, Some, None, refl, sym, ◌∙◌, ap, arith}
-use Rattle.std.specs.Prelude.{slice_get}
-use Rattle.std.specs.Option.{option_map, option_map_or, unwrap_or}
-use Rattle.std.proofs.lemmas.Grind.{same_number_lists}
-use Rattle.std.proofs.lemmas.List.{length-map, length-replicate}
-use Rattle.std.proofs.lemmas.Option.{none-some, same_Some}
-use Rattle.oc_linking.specs.declared.terms.Keep.{Keep}
-use Rattle.oc_linking.specs.declared.terms.Width.{Width}
-use Rattle.oc_linking.specs.Fits.{bytes_of}
-use Rattle.oc_linking.specs.Images.{Patches, byte_by, byte_upto, overlay, overlays}
+use Rattle.std.specs.{Prelude.{slice_get}, Option.{option_map, option_map_or, unwrap_or}}
+use Rattle.std.proofs.lemmas.{Grind.{same_number_lists}, List.{length-map, length-replicate}, Option.{none-some, same_Some}}
+use Rattle.oc_linking.specs.{declared.terms.Keep.{Keep}, declared.terms.Width.{Width}, Fits.{bytes_of}, Images.{Patches, byte_by, byte_upto, overlay, overlays}}
+use Rattle.oc_linking.specs.{Placing.{Placement}, Values.{Valuation}, Shows.{unders}}
 use Rattle.oc_linking.specs.Parts as parts
-use Rattle.oc_linking.specs.Placing.{Placement}
-use Rattle.oc_linking.specs.Values.{Valuation}
-use Rattle.oc_linking.specs.Shows.{unders}
-use Rattle.oc_linking.proofs.Apart.{byte_from}
-use Rattle.oc_linking.proofs.FirstFaultLaws.{first_upto_none}
-use Rattle.oc_linking.proofs.Overlay.{length-overlay}
-use Rattle.oc_linking.proofs.Storing.{byte_of_image, byte_of_field, few}
+use Rattle.oc_linking.proofs.{Apart.{byte_from}, FirstFaultLaws.{first_upto_none}, Overlay.{length-overlay}, Storing.{byte_of_image, byte_of_field, few}}
 use Rattle.oc_linking.proofs.Upto.{first_upto_from}
 use Rattle.oc_algebra.specs.Folds.{low_of}
 use Rattle.oc_algebra.proofs.FoldLaws.{low_of-byte}
-use Rattle.oc_neutral.specs.declared.section.Section.{Section}
-use Rattle.oc_neutral.specs.declared.reloc.Reloc.{Reloc}
-use Rattle.oc_neutral.specs.Objects.{Object}
-use Rattle.oc_neutral.specs.Building.{is_zero, stored_size}
-use Rattle.oc_neutral.specs.Invariants.{HasItsBytes}
-use Rattle.oc_neutral.specs.Faces.{contents_of, shown_section, frame_of}
-use Rattle.oc_neutral.specs.Dialects.{Dialect, is_difference, is_folded, patches_in}
-use Rattle.oc_shows.specs.Shows.{IsTrueToFixed}
-use Rattle.oc_shows.specs.Built.{RelocMap, IsFree, IsGiven}
-use Rattle.oc_shows.specs.Again.{IsCovered}
-use Rattle.oc_neutral.proofs.Adding.{wide_enough}
-use Rattle.oc_shows.proofs.BuiltSeen.{under-from, under-given}
-use Rattle.oc_shows.proofs.Showing.{IsBase, IsShowing, stored_at}
-use Rattle.oc_neutral.proofs.Positions.{each_at, images_same, lengths_same, lists_same}
-use Rattle.oc_neutral.proofs.WrittenBytes.{byte_at}
+use Rattle.oc_neutral.specs.{declared.section.Section.{Section}, declared.reloc.Reloc.{Reloc}, Objects.{Object}, Building.{is_zero, stored_size}}
+use Rattle.oc_neutral.specs.{Invariants.{HasItsBytes}, Faces.{contents_of, shown_section, frame_of}, Dialects.{Dialect, is_difference, is_folded, patches_in}}
+use Rattle.oc_shows.specs.{Shows.{IsTrueToFixed}, Built.{RelocMap, IsFree, IsGiven}, Again.{IsCovered}}
+use Rattle.oc_neutral.proofs.{Adding.{wide_enough}, Positions.{each_at, images_same, lengths_same, lists_same}, WrittenBytes.{byte_at}}
+use Rattle.oc_shows.proofs.{BuiltSeen.{under-from, under-given}, Showing.{IsBase, IsShowing, stored_at}}
 
 -- a section of contents that are filled
 overlays_at : (patches : Patches) (j : ℕ) (yss : List (List ℕ)) (k : ℕ) → slice_get (overlays patches j yss) k ≡ option_map (overlay (patches (j + k)) 0) (slice_get yss k)

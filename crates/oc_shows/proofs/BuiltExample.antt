@@ -1,55 +1,31 @@
 -- A file of three sections, of which one is in a group and one has zeros, and of two symbols, of which one falls back on the other: the
 -- object that a Builder makes of it shows it, with a relocation and a folded constant.
 use Rattle.std.proofs.Common.{◌≡◌, ℕ, zero, suc, ◌+◌, ◌^◌, ◌<◌, ◌≤◌, ◌⊎◌, inl, inr, Bool, true, false, ◌&&◌, cond, eqb, List, [], ◌∷◌, length, map, get_or, replicate, Option, Some, None, Ok, refl, sym, ◌∙◌, ap, subst, arith}
-use Rattle.std.specs.Prelude.{pos, nat_eq, if◌then◌else◌, slice_get}
-use Rattle.std.specs.List.{AllByRecursion}
-use Rattle.std.specs.Option.{is_some}
-use Rattle.std.proofs.lemmas.Bool.{eqb-true, true≢false}
-use Rattle.std.proofs.lemmas.Bool.Decides.{nat_tests}
-use Rattle.std.proofs.lemmas.Option.{none-some, same_Some}
-use Rattle.oc_base.specs.declared.format.Format.TheVariants.{Elf64}
-use Rattle.oc_base.specs.declared.format.Word.TheVariants.{W64}
-use Rattle.oc_linking.specs.declared.terms.Width.TheVariants.{Four}
-use Rattle.oc_linking.specs.declared.terms.Check.TheVariants.{Wrap}
-use Rattle.oc_linking.specs.declared.terms.Hint.TheVariants.{Plain}
-use Rattle.oc_linking.specs.declared.terms.Kind.{Kind}
-use Rattle.oc_linking.specs.declared.terms.Kind.TheVariants.{Data, Zero}
-use Rattle.oc_linking.specs.declared.terms.Mark.TheVariants.{NoType}
-use Rattle.oc_linking.specs.declared.terms.Visibility.TheVariants.{Default}
+use Rattle.std.specs.{Prelude.{pos, nat_eq, if◌then◌else◌, slice_get}, List.{AllByRecursion}, Option.{is_some}}
+use Rattle.std.proofs.lemmas.{Bool.{eqb-true, true≢false}, Bool.Decides.{nat_tests}, Option.{none-some, same_Some}}
+use Rattle.oc_base.specs.{declared.format.Format.TheVariants.{Elf64}, declared.format.Word.TheVariants.{W64}}
+use Rattle.oc_linking.specs.{declared.terms.Width.TheVariants.{Four}, declared.terms.Check.TheVariants.{Wrap}, declared.terms.Hint.TheVariants.{Plain}}
+use Rattle.oc_linking.specs.{declared.terms.Kind.{Kind}, declared.terms.Kind.TheVariants.{Data, Zero}, declared.terms.Mark.TheVariants.{NoType}}
+use Rattle.oc_linking.specs.{declared.terms.Visibility.TheVariants.{Default}, declared.terms.Binding.{Binding}}
+use Rattle.oc_linking.specs.{declared.terms.Binding.TheVariants.{Global, Weak}, Keeping.{all}, Rules.{Field, Symbolic}, Values.{numbered as numbered_in_file}}
 use Rattle.oc_linking.specs.declared.terms.Value.TheVariants as value
 use Rattle.oc_linking.specs.declared.terms.Fallback.TheVariants as fallback
-use Rattle.oc_linking.specs.declared.terms.Binding.{Binding}
-use Rattle.oc_linking.specs.declared.terms.Binding.TheVariants.{Global, Weak}
 use Rattle.oc_linking.specs.declared.terms.Base.TheVariants as base
 use Rattle.oc_linking.specs.declared.terms.Less.TheVariants as less
-use Rattle.oc_linking.specs.Keeping.{all}
 use Rattle.oc_linking.specs.Parts as parts
-use Rattle.oc_linking.specs.Rules.{Field, Symbolic}
 use Rattle.oc_linking.specs.Targets as file
-use Rattle.oc_linking.specs.Values.{numbered as numbered_in_file}
 use Rattle.oc_chains.specs.declared.field.Field as chain
-use Rattle.oc_chains.specs.Fields.{FollowFrom}
-use Rattle.oc_chains.specs.Lists.{is_taken}
-use Rattle.oc_algebra.specs.Folds.{fold_of}
-use Rattle.oc_algebra.specs.Residues.{residue_of, reduced_number}
-use Rattle.oc_neutral.specs.declared.symbol.Symbol.{Symbol}
-use Rattle.oc_neutral.specs.declared.reloc.Reloc.{Reloc}
-use Rattle.oc_neutral.specs.declared.reloc.Target.TheVariants as target
-use Rattle.oc_neutral.specs.declared.normal.Folded.{Folded}
-use Rattle.oc_neutral.specs.Building.{Draft, is_zero, reloc_added, with_constant, with_number, with_reloc}
-use Rattle.oc_shows.specs.Built.{AddedReloc, given_by, HasAdded, IsFree, IsGiven, IsStarted}
-use Rattle.oc_neutral.specs.Dialects.{Dialect, is_kept}
-use Rattle.oc_neutral.specs.Faces.{contents_of}
-use Rattle.oc_shows.specs.Computed.{computed_symbol, keys_in}
-use Rattle.oc_neutral.specs.Invariants.{AreBytes, AreDistinct, CanAdd, IsDraft, IsHeld}
-use Rattle.oc_neutral.specs.Normal.{moved_addend, place_among, by_section, folded}
+use Rattle.oc_chains.specs.{Fields.{FollowFrom}, Lists.{is_taken}}
+use Rattle.oc_algebra.specs.{Folds.{fold_of}, Residues.{residue_of, reduced_number}}
+use Rattle.oc_neutral.specs.{declared.symbol.Symbol.{Symbol}, declared.reloc.Reloc.{Reloc}, declared.normal.Folded.{Folded}}
+use Rattle.oc_neutral.specs.{Building.{Draft, is_zero, reloc_added, with_constant, with_number, with_reloc}, Dialects.{Dialect, is_kept}, Faces.{contents_of}}
+use Rattle.oc_neutral.specs.{Invariants.{AreBytes, AreDistinct, CanAdd, IsDraft, IsHeld}, Normal.{moved_addend, place_among, by_section, folded}}
 use Rattle.oc_neutral.specs.Rows.{Row, TakesSection, TakesPlace, row}
-use Rattle.oc_shows.specs.RowFields.{place_target, row_field}
-use Rattle.oc_shows.specs.RowValues.{row_reloc}
-use Rattle.oc_shows.specs.Shows.{AreNumbered, Shows}
+use Rattle.oc_neutral.specs.declared.reloc.Target.TheVariants as target
+use Rattle.oc_shows.specs.{Built.{AddedReloc, given_by, HasAdded, IsFree, IsGiven, IsStarted}, Computed.{computed_symbol, keys_in}}
+use Rattle.oc_shows.specs.{RowFields.{place_target, row_field}, RowValues.{row_reloc}, Shows.{AreNumbered, Shows}}
 use Rattle.oc_shows.specs.Started.{AreShowable, start_of, stored_section}
-use Rattle.oc_shows.proofs.BuiltLaws.{built_shows}
-use Rattle.oc_shows.proofs.RowFieldLaws.{rows_are_fields, section_rows_are_fields, symbol_is_target}
+use Rattle.oc_shows.proofs.{BuiltLaws.{built_shows}, RowFieldLaws.{rows_are_fields, section_rows_are_fields, symbol_is_target}}
 use Rattle.oc_shows.proofs.StartedLaws.{start_is_started, fieldless_at}
 
 abbrev section : Kind → ℕ → List ℕ → Option (List ℕ) → parts.Section

@@ -2,18 +2,10 @@
 use Rattle.std.proofs.Common.{◌≡◌, ℕ, ◌⊎◌, List, [], ◌∷◌, map, refl, sym, ◌∙◌, ap}
 use Rattle.oc_linking.specs.declared.terms.Keep.{Keep}
 use Rattle.oc_linking.specs.Parts as parts
-use Rattle.oc_neutral.specs.declared.group.Group.{Group}
-use Rattle.oc_neutral.specs.declared.section.Section.{Section}
-use Rattle.oc_neutral.specs.declared.symbol.Symbol.{Symbol}
-use Rattle.oc_neutral.specs.Objects.{Object}
-use Rattle.oc_neutral.specs.Building.{Draft}
-use Rattle.oc_neutral.specs.Dialects.{Dialect}
-use Rattle.oc_neutral.specs.Faces.{shown_section, shown_symbol, frame_of}
-use Rattle.oc_shows.specs.Shows.{Shows}
-use Rattle.oc_shows.specs.Built.{RelocMap, IsFree, IsGiven, IsStarted, BuiltShows}
-use Rattle.oc_shows.proofs.BuiltContents.{contents-shown}
-use Rattle.oc_shows.proofs.BuiltSeen.{looks-shown, patches-shown, patches-apart, patches-fit}
-use Rattle.oc_shows.proofs.Holding.{holds_all}
+use Rattle.oc_neutral.specs.{declared.group.Group.{Group}, declared.section.Section.{Section}, declared.symbol.Symbol.{Symbol}, Objects.{Object}}
+use Rattle.oc_neutral.specs.{Building.{Draft}, Dialects.{Dialect}, Faces.{shown_section, shown_symbol, frame_of}}
+use Rattle.oc_shows.specs.{Shows.{Shows}, Built.{RelocMap, IsFree, IsGiven, IsStarted, BuiltShows}}
+use Rattle.oc_shows.proofs.{BuiltContents.{contents-shown}, BuiltSeen.{looks-shown, patches-shown, patches-apart, patches-fit}, Holding.{holds_all}}
 use Rattle.oc_shows.proofs.Showing.{IsBase, IsShowing}
 
 frames_of : (groups : List Group) (zs : List Section) → map frame_of (map (shown_section groups) zs) ≡ map (λ (z : Section). frame_of (shown_section groups z)) zs

@@ -2,25 +2,15 @@
 use Rattle.std.proofs.Common.{◌≡◌, ℕ, refl, List, [], ◌∷◌, Option, Some, None, Result, Ok, Err, map}
 use Rattle.std.specs.Prelude.{ℤ, pos, negsuc}
 use Rattle.oc_base.specs.declared.format.Format.TheVariants.{Mac64}
-use Rattle.oc_linking.specs.declared.terms.Width.{Width}
-use Rattle.oc_linking.specs.declared.terms.Width.TheVariants.{One, Four}
-use Rattle.oc_linking.specs.declared.terms.Check.TheVariants.{Signed}
-use Rattle.oc_linking.specs.declared.terms.Hint.TheVariants.{Plain}
-use Rattle.oc_linking.specs.declared.terms.Kind.TheVariants.{Data}
+use Rattle.oc_linking.specs.{declared.terms.Width.{Width}, declared.terms.Width.TheVariants.{One, Four}, declared.terms.Check.TheVariants.{Signed}}
+use Rattle.oc_linking.specs.{declared.terms.Hint.TheVariants.{Plain}, declared.terms.Kind.TheVariants.{Data}, declared.terms.Less.{Less}}
 use Rattle.oc_linking.specs.declared.terms.Base.TheVariants as base
-use Rattle.oc_linking.specs.declared.terms.Less.{Less}
 use Rattle.oc_linking.specs.declared.terms.Less.TheVariants as less
-use Rattle.oc_algebra.specs.Folds.{fold_of}
-use Rattle.oc_algebra.specs.Residues.{residue_of, reduced_number}
-use Rattle.oc_neutral.specs.declared.section.Section.{Section}
+use Rattle.oc_algebra.specs.{Folds.{fold_of}, Residues.{residue_of, reduced_number}}
+use Rattle.oc_neutral.specs.{declared.section.Section.{Section}, declared.reloc.Reloc.{Reloc}, declared.fault.BuildFault.{BuildFault}}
+use Rattle.oc_neutral.specs.{Building.{Draft, reloc_added}, Faces.{contents_of}, Normal.{place_among, by_section, folded}, Objects.{reloc_at}}
 use Rattle.oc_neutral.specs.declared.reloc.Target.TheVariants as target
-use Rattle.oc_neutral.specs.declared.reloc.Reloc.{Reloc}
-use Rattle.oc_neutral.specs.declared.fault.BuildFault.{BuildFault}
 use Rattle.oc_neutral.specs.declared.fault.BuildFault.TheVariants as fault
-use Rattle.oc_neutral.specs.Building.{Draft, reloc_added}
-use Rattle.oc_neutral.specs.Faces.{contents_of}
-use Rattle.oc_neutral.specs.Normal.{place_among, by_section, folded}
-use Rattle.oc_neutral.specs.Objects.{reloc_at}
 use Rattle.oc_shows.specs.Started.{plain_draft}
 
 -- a section of the bytes 1 to 8

@@ -1,36 +1,19 @@
 -- What is given of the fields of a file is what the object shows of them.
 use Rattle.std.proofs.Common.{◌≡◌, ℕ, ◌+◌, ◌≤◌, ◌⊎◌, inl, inr, Bool, true, false, cond, List, map, Option, Some, None, refl, sym, ◌∙◌, ap, subst}
-use Rattle.std.specs.Prelude.{not, if◌then◌else◌}
-use Rattle.std.specs.Option.{option_map, option_and_then, option_map_or}
+use Rattle.std.specs.{Prelude.{not, if◌then◌else◌}, Option.{option_map, option_and_then, option_map_or}}
 use Rattle.std.proofs.lemmas.Option.{none-some, same_Some}
-use Rattle.oc_base.specs.declared.format.Format.{Format}
-use Rattle.oc_base.specs.declared.format.Word.{Word}
-use Rattle.oc_base.specs.Formats.{word_for}
-use Rattle.oc_linking.specs.declared.terms.Keep.{Keep}
-use Rattle.oc_linking.specs.declared.terms.Patch.{Patch}
-use Rattle.oc_linking.specs.Fits.{bytes_of, fits}
-use Rattle.oc_linking.specs.Images.{Patches, overflows}
-use Rattle.oc_linking.specs.Linking.{patch_of}
+use Rattle.oc_base.specs.{declared.format.Format.{Format}, declared.format.Word.{Word}, Formats.{word_for}}
+use Rattle.oc_linking.specs.{declared.terms.Keep.{Keep}, declared.terms.Patch.{Patch}, Fits.{bytes_of, fits}, Images.{Patches, overflows}, Linking.{patch_of}}
+use Rattle.oc_linking.specs.{Placing.{Placement}, Values.{Valuation}, Rules.{Field, Sectional}, Shows.{Apart, blank, lives, unders, under_of}}
 use Rattle.oc_linking.specs.Parts as parts
-use Rattle.oc_linking.specs.Placing.{Placement}
-use Rattle.oc_linking.specs.Values.{Valuation}
-use Rattle.oc_linking.specs.Rules.{Field, Sectional}
-use Rattle.oc_linking.specs.Shows.{Apart, blank, lives, unders, under_of}
 use Rattle.oc_algebra.specs.Folds.{low_of}
-use Rattle.oc_neutral.specs.declared.symbol.Symbol.{Symbol}
-use Rattle.oc_neutral.specs.declared.reloc.Reloc.{Reloc}
-use Rattle.oc_neutral.specs.declared.reloc.Target.{Target}
-use Rattle.oc_neutral.specs.Objects.{Object, reloc_at}
-use Rattle.oc_neutral.specs.Normal.{Place, place_among}
-use Rattle.oc_neutral.specs.Faces.{named_of, shown_symbol, field_of}
-use Rattle.oc_neutral.specs.Worth.{IsTrueToLocals, residue_at}
+use Rattle.oc_neutral.specs.{declared.symbol.Symbol.{Symbol}, declared.reloc.Reloc.{Reloc}, declared.reloc.Target.{Target}, Objects.{Object, reloc_at}}
+use Rattle.oc_neutral.specs.{Normal.{Place, place_among}, Faces.{named_of, shown_symbol, field_of}, Worth.{IsTrueToLocals, residue_at}}
 use Rattle.oc_neutral.specs.Dialects.{Dialect, Look, kept_fields, is_difference, is_folded, look_of, looks_in, patches_in}
-use Rattle.oc_shows.specs.Shows.{looks_of, patches_of, IsTrueToFixed}
-use Rattle.oc_shows.specs.Built.{RelocMap, IsFree, IsGiven, IsField, named_in}
-use Rattle.oc_neutral.proofs.Added.{kept_of}
+use Rattle.oc_shows.specs.{Shows.{looks_of, patches_of, IsTrueToFixed}, Built.{RelocMap, IsFree, IsGiven, IsField, named_in}}
+use Rattle.oc_neutral.proofs.{Added.{kept_of}, NormalLemmas.{section_for}}
 use Rattle.oc_shows.proofs.Showing.{IsBase, IsShowing, left_in, normal_in}
 use Rattle.oc_shows.proofs.Looking.{folds, normal_look, patch_at, look_among, look-normal, patch-normal, number-normal, fits-normal, cancels-named, true_to_locals}
-use Rattle.oc_neutral.proofs.NormalLemmas.{section_for}
 
 -- what the target of a normal form names
 pub named-left : (symbols : List Symbol) (t : Target) → named_of symbols (section_for (place_among symbols t) t) ≡ named_in symbols t

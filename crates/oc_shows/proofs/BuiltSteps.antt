@@ -1,25 +1,16 @@
 -- What a reader's loop cites: nothing is added yet, one entry more, and what stands against a step.
 use Rattle.std.proofs.Common.{◌≡◌, ◌≢◌, ℕ, ◌+◌, ◌≤◌, Bool, true, false, ◌&&◌, ◌||◌, cond, List, [], ◌∷◌, map, Some, None, Result, Ok, refl, sym, ◌∙◌, ap, subst, arith}
 use Rattle.std.specs.Prelude.{bytes_eq, nat_eq, nat_lt, not, slice_get, suc}
-use Rattle.std.proofs.lemmas.Bool.{true≢false}
-use Rattle.std.proofs.lemmas.Bool.Decides.{nat_tests}
-use Rattle.std.proofs.lemmas.Slice.Eq.{bytes_eq-Decides}
-use Rattle.oc_linking.specs.declared.terms.Binding.{Binding}
-use Rattle.oc_linking.specs.declared.terms.Binding.TheVariants.{Local, Global, Undefined, Common, Weak}
+use Rattle.std.proofs.lemmas.{Bool.{true≢false}, Bool.Decides.{nat_tests}, Slice.Eq.{bytes_eq-Decides}}
+use Rattle.oc_linking.specs.{declared.terms.Binding.{Binding}, declared.terms.Binding.TheVariants.{Local, Global, Undefined, Common, Weak}, Parts.{is_local}}
 use Rattle.oc_linking.specs.Parts as parts
-use Rattle.oc_linking.specs.Parts.{is_local}
 use Rattle.oc_chains.specs.Lists.{list_of}
-use Rattle.oc_neutral.specs.declared.section.Section.{Section}
-use Rattle.oc_neutral.specs.declared.reloc.Reloc.{Reloc}
-use Rattle.oc_neutral.specs.declared.fault.BuildFault.{BuildFault}
-use Rattle.oc_neutral.specs.Building.{Draft, has_name, limit_by, limit_passed, reloc_added, size_sum, stored_size, stored_sum}
-use Rattle.oc_shows.specs.Built.{AddedReloc, RelocMap, and_one, given_by, HasAdded, Makes}
-use Rattle.oc_shows.specs.Computed.{computed_symbol, placed_binding}
-use Rattle.oc_neutral.specs.Invariants.{CanAdd, IsDraft}
+use Rattle.oc_neutral.specs.{declared.section.Section.{Section}, declared.reloc.Reloc.{Reloc}, declared.fault.BuildFault.{BuildFault}}
+use Rattle.oc_neutral.specs.{Building.{Draft, has_name, limit_by, limit_passed, reloc_added, size_sum, stored_size, stored_sum}, Invariants.{CanAdd, IsDraft}}
 use Rattle.oc_neutral.specs.Keeping.{is_again}
-use Rattle.oc_shows.proofs.Addable.{can-added}
+use Rattle.oc_shows.specs.{Built.{AddedReloc, RelocMap, and_one, given_by, HasAdded, Makes}, Computed.{computed_symbol, placed_binding}}
+use Rattle.oc_shows.proofs.{Addable.{can-added}, Holding.{holds_by}}
 use Rattle.oc_neutral.proofs.Added.{added}
-use Rattle.oc_shows.proofs.Holding.{holds_by}
 
 -- nothing is added yet
 pub added_none : (base : Draft) → HasAdded base base (given_by [])

@@ -1,46 +1,23 @@
 -- An object to which a file's relocations were added is whole and readable, where it was before.
 use Rattle.std.proofs.Common.{◌≡◌, ℕ, ◌<◌, ◌≤◌, true, List, [], ◌∷◌, length, get_or, Option, Some, None, Ok, refl, sym, ◌∙◌, ap, subst, arith}
-use Rattle.std.specs.Prelude.{slice_get}
-use Rattle.std.specs.List.{AllByRecursion}
-use Rattle.std.specs.Option.{option_map_or}
-use Rattle.std.proofs.lemmas.Grind.{same_number_lists}
-use Rattle.std.proofs.lemmas.Option.{none-some, slice_get_within}
-use Rattle.oc_base.specs.declared.format.Format.{Format}
-use Rattle.oc_base.specs.Formats.{word_for}
-use Rattle.oc_linking.specs.declared.terms.Value.{Value}
+use Rattle.std.specs.{Prelude.{slice_get}, List.{AllByRecursion}, Option.{option_map_or}}
+use Rattle.std.proofs.lemmas.{Grind.{same_number_lists}, Option.{none-some, slice_get_within}}
+use Rattle.oc_base.specs.{declared.format.Format.{Format}, Formats.{word_for}}
+use Rattle.oc_linking.specs.{declared.terms.Value.{Value}, declared.terms.Fallback.{Fallback}, declared.terms.Binding.{Binding}}
+use Rattle.oc_linking.specs.{declared.terms.Binding.TheVariants.{Local, Global, Undefined, Common, Weak}, Fits.{bytes_of}}
 use Rattle.oc_linking.specs.declared.terms.Value.TheVariants as value
-use Rattle.oc_linking.specs.declared.terms.Fallback.{Fallback}
 use Rattle.oc_linking.specs.declared.terms.Fallback.TheVariants as fallback
-use Rattle.oc_linking.specs.declared.terms.Binding.{Binding}
-use Rattle.oc_linking.specs.declared.terms.Binding.TheVariants.{Local, Global, Undefined, Common, Weak}
 use Rattle.oc_linking.specs.Parts as parts
-use Rattle.oc_linking.specs.Fits.{bytes_of}
-use Rattle.oc_chains.specs.declared.field.Field.{Field}
-use Rattle.oc_chains.specs.Fields.{field}
-use Rattle.oc_chains.specs.Lists.{list_of}
-use Rattle.oc_neutral.specs.declared.group.Group.{Group}
-use Rattle.oc_neutral.specs.declared.section.Section.{Section}
-use Rattle.oc_neutral.specs.declared.symbol.Symbol.{Symbol}
-use Rattle.oc_neutral.specs.declared.reloc.Target.{Target}
-use Rattle.oc_neutral.specs.declared.reloc.Reloc.{Reloc}
-use Rattle.oc_neutral.specs.declared.normal.Normal.TheVariants as normal
-use Rattle.oc_neutral.specs.Objects.{Object}
-use Rattle.oc_neutral.specs.Normal.{Place, place_among}
-use Rattle.oc_neutral.specs.Building.{Draft, reloc_added, stored_size}
-use Rattle.oc_neutral.specs.Faces.{shown_section, frame_of}
-use Rattle.oc_neutral.specs.GivenTags.{can_have, is_blank_type}
+use Rattle.oc_chains.specs.{declared.field.Field.{Field}, Fields.{field}, Lists.{list_of}}
+use Rattle.oc_neutral.specs.{declared.group.Group.{Group}, declared.section.Section.{Section}, declared.symbol.Symbol.{Symbol}, declared.reloc.Target.{Target}}
+use Rattle.oc_neutral.specs.{declared.reloc.Reloc.{Reloc}, Objects.{Object}, Normal.{Place, place_among}, Building.{Draft, reloc_added, stored_size}}
+use Rattle.oc_neutral.specs.{Faces.{shown_section, frame_of}, GivenTags.{can_have, is_blank_type}}
 use Rattle.oc_neutral.specs.Invariants.{CanAdd, HasItsBytes, HasOffset, IsAlign, IsBinding, IsDraft, IsFallback, IsHinted, IsSymbol, IsValue, HaveKeys, AreBegun, NamesOriginal, groups_of}
-use Rattle.oc_shows.specs.Readable.{AreZeros}
-use Rattle.oc_shows.specs.Built.{AddedReloc, RelocMap, given_by, Makes}
-use Rattle.oc_shows.specs.Finished.{BuiltIsComplete, BuiltIsReadable}
-use Rattle.oc_shows.specs.Again.{IsCovered}
-use Rattle.oc_neutral.proofs.Added.{added}
-use Rattle.oc_neutral.proofs.DraftAdded.{IsOne, kept, constant, one}
-use Rattle.oc_shows.proofs.Holding.{IsHolding, found-more, still-more, normal-base, holds_all, holds_by}
-use Rattle.oc_shows.proofs.Showing.{normal_in}
-use Rattle.oc_neutral.proofs.MoreRelocs.{all_placed, by_list}
-use Rattle.oc_neutral.proofs.NormalLemmas.{kept_hinted, kept_left, section_for}
-use Rattle.oc_neutral.proofs.Positions.{each_at, images_same, lengths_same, there_at}
+use Rattle.oc_neutral.specs.declared.normal.Normal.TheVariants as normal
+use Rattle.oc_shows.specs.{Readable.{AreZeros}, Built.{AddedReloc, RelocMap, given_by, Makes}, Finished.{BuiltIsComplete, BuiltIsReadable}, Again.{IsCovered}}
+use Rattle.oc_neutral.proofs.{Added.{added}, DraftAdded.{IsOne, kept, constant, one}, MoreRelocs.{all_placed, by_list}}
+use Rattle.oc_neutral.proofs.{NormalLemmas.{kept_hinted, kept_left, section_for}, Positions.{each_at, images_same, lengths_same, there_at}}
+use Rattle.oc_shows.proofs.{Holding.{IsHolding, found-more, still-more, normal-base, holds_all, holds_by}, Showing.{normal_in}}
 use Rattle.oc_shelf.proofs.WritingLaws.MemberLemmas.{all_members}
 
 -- what holds of the normal form of each entry holds of each relocation

@@ -1,36 +1,19 @@
 -- A Builder refuses nothing of a clean file.
 use Rattle.std.proofs.Common.{◌≡◌, ℕ, ◌+◌, ◌<◌, ◌≤◌, inl, inr, Bool, true, false, List, Some, None, Ok, refl, sym, ◌∙◌, ap, subst, arith}
 use Rattle.std.specs.Prelude.{ℤ}
-use Rattle.std.proofs.lemmas.Bool.{cases_eq, cases_lt, true≢false}
-use Rattle.std.proofs.lemmas.Bool.Decides.{nat_tests}
-use Rattle.std.proofs.lemmas.Option.{none-some}
-use Rattle.oc_base.specs.declared.format.Format.{Format}
-use Rattle.oc_base.specs.declared.format.Word.{Word}
-use Rattle.oc_base.specs.Formats.{word_for}
-use Rattle.oc_linking.specs.declared.terms.Keep.{Keep}
-use Rattle.oc_linking.specs.Fits.{bytes_of, fits}
-use Rattle.oc_linking.specs.Placing.{zeros}
-use Rattle.oc_linking.specs.Rules.{Field}
-use Rattle.oc_algebra.specs.Residues.{residue_of}
-use Rattle.oc_algebra.specs.Folds.{fold_of, low_of}
-use Rattle.oc_neutral.specs.declared.reloc.Reloc.{Reloc}
-use Rattle.oc_neutral.specs.declared.normal.Normal.{Normal}
-use Rattle.oc_neutral.specs.declared.normal.Normal.TheVariants as normal
-use Rattle.oc_neutral.specs.Building.{Draft, is_met, with_constant, with_reloc, normal_added, reloc_added}
-use Rattle.oc_neutral.specs.Dialects.{Dialect, is_difference, kept_fields}
-use Rattle.oc_shows.specs.Computed.{zero_values, zeros_outside}
-use Rattle.oc_shows.specs.Shows.{IsTrueToFixed}
+use Rattle.std.proofs.lemmas.{Bool.{cases_eq, cases_lt, true≢false}, Bool.Decides.{nat_tests}, Option.{none-some}}
+use Rattle.oc_base.specs.{declared.format.Format.{Format}, declared.format.Word.{Word}, Formats.{word_for}}
+use Rattle.oc_linking.specs.{declared.terms.Keep.{Keep}, Fits.{bytes_of, fits}, Placing.{zeros}, Rules.{Field}}
+use Rattle.oc_algebra.specs.{Residues.{residue_of}, Folds.{fold_of, low_of}}
+use Rattle.oc_neutral.specs.{declared.reloc.Reloc.{Reloc}, declared.normal.Normal.{Normal}}
+use Rattle.oc_neutral.specs.{Building.{Draft, is_met, with_constant, with_reloc, normal_added, reloc_added}, Dialects.{Dialect, is_difference, kept_fields}}
 use Rattle.oc_neutral.specs.Worth.{residue_at}
+use Rattle.oc_neutral.specs.declared.normal.Normal.TheVariants as normal
+use Rattle.oc_shows.specs.{Computed.{zero_values, zeros_outside}, Shows.{IsTrueToFixed}}
 use Rattle.oc_shows.specs.Built.{RelocMap, IsField, IsStarted, AreApart, AreOfFile, DifferencesFit, CleanIsAdded}
-use Rattle.oc_neutral.proofs.Adding.{have_common, wide_enough}
-use Rattle.oc_shows.proofs.BuiltSeen.{folds-field, locals-fixed, word-started}
-use Rattle.oc_neutral.proofs.HeldLemmas.{reloc_unmet}
-use Rattle.oc_shows.proofs.BuiltLaws.{base_of_start}
-use Rattle.oc_shows.proofs.Holding.{IsHolding, IsMetBy, holds_all, normal-base}
-use Rattle.oc_shows.proofs.Showing.{normal_in}
-use Rattle.oc_neutral.proofs.NormalLemmas.{constant_is, is_constant}
-use Rattle.oc_shows.proofs.NormalValues.{constant_value}
-use Rattle.oc_shows.proofs.Truth.{values_fixed}
+use Rattle.oc_neutral.proofs.{Adding.{have_common, wide_enough}, HeldLemmas.{reloc_unmet}, NormalLemmas.{constant_is, is_constant}}
+use Rattle.oc_shows.proofs.{BuiltSeen.{folds-field, locals-fixed, word-started}, BuiltLaws.{base_of_start}}
+use Rattle.oc_shows.proofs.{Holding.{IsHolding, IsMetBy, holds_all, normal-base}, Showing.{normal_in}, NormalValues.{constant_value}, Truth.{values_fixed}}
 
 -- fields of which none begins in one before it have no byte in common
 disjoint : (i m j n : ℕ) → 1 ≤ m → 1 ≤ n → (i < j → i + m ≤ j) → (j < i → j + n ≤ i) → (i ≡ j → ⊥) → have_common i m j n ≡ false

@@ -1,25 +1,14 @@
 -- A relocation is computed from its look and its residue where all numbers of a placement are 0.
 use Rattle.std.proofs.Common.{◌≡◌, ℕ, ◌+◌, ◌<◌, refl, sym, ◌∙◌, ap, arith}
-use Rattle.std.specs.Prelude.{ℤ}
-use Rattle.std.specs.Option.{option_map, option_map_or, unwrap_or}
-use Rattle.oc_base.specs.declared.format.Word.{Word}
-use Rattle.oc_base.specs.declared.format.Word.TheVariants.{W32, W64}
-use Rattle.oc_base.specs.Formats.{word_for}
-use Rattle.oc_linking.specs.Numbers.{modulus, minus}
-use Rattle.oc_linking.specs.Placing.{zeros}
-use Rattle.oc_linking.specs.Values.{Valued, Valuation, worthless}
+use Rattle.std.specs.{Prelude.{ℤ}, Option.{option_map, option_map_or, unwrap_or}}
+use Rattle.oc_base.specs.{declared.format.Word.{Word}, declared.format.Word.TheVariants.{W32, W64}, Formats.{word_for}}
+use Rattle.oc_linking.specs.{Numbers.{modulus, minus}, Placing.{zeros}, Values.{Valued, Valuation, worthless}}
 use Rattle.oc_algebra.specs.Residues.{residue_of, reduced_number, signed_of}
 use Rattle.oc_algebra.proofs.Laws.{residue_small}
-use Rattle.oc_neutral.specs.declared.symbol.Symbol.{Symbol}
-use Rattle.oc_neutral.specs.declared.reloc.Target.{Target}
+use Rattle.oc_neutral.specs.{declared.symbol.Symbol.{Symbol}, declared.reloc.Target.{Target}, declared.reloc.Reloc.{Reloc}, Objects.{Object}}
+use Rattle.oc_neutral.specs.{Invariants.{IsThere, IsNormal, NamesOriginal}, Worth.{base_of, less_of, target_worth, residue_at}, Faces.{named_of, shown_symbols}}
 use Rattle.oc_neutral.specs.declared.reloc.Target.TheVariants as target
-use Rattle.oc_neutral.specs.declared.reloc.Reloc.{Reloc}
-use Rattle.oc_neutral.specs.Objects.{Object}
-use Rattle.oc_neutral.specs.Invariants.{IsThere, IsNormal, NamesOriginal}
-use Rattle.oc_neutral.specs.Worth.{base_of, less_of, target_worth, residue_at}
-use Rattle.oc_neutral.specs.Faces.{named_of, shown_symbols}
-use Rattle.oc_shows.specs.Shows.{reloc_look}
-use Rattle.oc_shows.specs.Computed.{addend_for, reloc_for, zero_worth}
+use Rattle.oc_shows.specs.{Shows.{reloc_look}, Computed.{addend_for, reloc_for, zero_worth}}
 use Rattle.oc_neutral.proofs.Positions.{there_at}
 use Rattle.oc_shows.proofs.PlacedSymbols.{target-placed}
 

@@ -1,34 +1,20 @@
 -- What files of all containers ask of an object: fields by offset, the numbers in them, places of symbols, names that stand once.
 use Rattle.std.proofs.Common.{◌≡◌, ℕ, zero, suc, ◌+◌, ◌<◌, ◌≤◌, ◌%◌, Bool, true, false, cond, ℤ, List, [], ◌∷◌, length, get_or, Option, None, Some, Ok, refl, sym, ◌∙◌, ap, subst, arith, MatchResult}
-use Rattle.std.specs.Prelude.{bytes_eq, slice_get}
-use Rattle.std.specs.Option.{is_some, option_map, option_map_or, option_and_then}
-use Rattle.std.proofs.lemmas.Bool.{eq-eqb, ne_eqb, true≢false}
-use Rattle.std.proofs.lemmas.Option.{none-some, same_Some}
-use Rattle.std.proofs.lemmas.Slice.Eq.{bytes_eq-Decides}
+use Rattle.std.specs.{Prelude.{bytes_eq, slice_get}, Option.{is_some, option_map, option_map_or, option_and_then}}
+use Rattle.std.proofs.lemmas.{Bool.{eq-eqb, ne_eqb, true≢false}, Option.{none-some, same_Some}, Slice.Eq.{bytes_eq-Decides}}
 use Rattle.oc_base.specs.declared.format.Word.{Word}
-use Rattle.oc_linking.specs.declared.terms.Binding.{Binding}
-use Rattle.oc_linking.specs.declared.terms.Binding.TheVariants.{Local, Global, Undefined, Common, Weak}
-use Rattle.oc_linking.specs.declared.terms.Less.{Less}
+use Rattle.oc_linking.specs.{declared.terms.Binding.{Binding}, declared.terms.Binding.TheVariants.{Local, Global, Undefined, Common, Weak}}
+use Rattle.oc_linking.specs.{declared.terms.Less.{Less}, declared.terms.Width.{Width}, declared.terms.Width.TheVariants.{One, Two, Four, Eight}, Fits.{span}}
 use Rattle.oc_linking.specs.declared.terms.Less.TheVariants as less
 use Rattle.oc_linking.specs.declared.terms.Value.TheVariants as value
-use Rattle.oc_linking.specs.declared.terms.Width.{Width}
-use Rattle.oc_linking.specs.declared.terms.Width.TheVariants.{One, Two, Four, Eight}
-use Rattle.oc_linking.specs.Fits.{span}
-use Rattle.oc_algebra.specs.Fields.{from_field_of, to_field_of}
-use Rattle.oc_algebra.specs.Promises.{Holds}
-use Rattle.oc_algebra.specs.Residues.{reduced_number}
+use Rattle.oc_algebra.specs.{Fields.{from_field_of, to_field_of}, Promises.{Holds}, Residues.{reduced_number}}
 use Rattle.oc_algebra.proofs.FieldLaws.{written_law}
 use Rattle.oc_chains.specs.declared.field.Field as chains
 use Rattle.oc_chains.specs.Fields.{FollowFrom, end_of}
-use Rattle.oc_neutral.specs.declared.reloc.Reloc.{Reloc}
-use Rattle.oc_strings.specs.declared.repeats.Repeat.{Repeat}
-use Rattle.oc_neutral.specs.Invariants.{HasOffset, IsBinding}
-use Rattle.oc_neutral.specs.KeySymbols.{global_place}
-use Rattle.oc_neutral.specs.Normal.{Place}
-use Rattle.oc_neutral.specs.Objects.{Object, reloc_among}
-use Rattle.oc_strings.specs.Repeats.{NameList, name_at, place_of, repeat_at}
+use Rattle.oc_neutral.specs.{declared.reloc.Reloc.{Reloc}, Invariants.{HasOffset, IsBinding}, KeySymbols.{global_place}, Normal.{Place}}
+use Rattle.oc_neutral.specs.{Objects.{Object, reloc_among}, Rows.{Taken, TakesSection, same_taken, taken_of}}
+use Rattle.oc_strings.specs.{declared.repeats.Repeat.{Repeat}, Repeats.{NameList, name_at, place_of, repeat_at}}
 use Rattle.oc_neutral.specs.Rows as rows
-use Rattle.oc_neutral.specs.Rows.{Taken, TakesSection, same_taken, taken_of}
 use Rattle.oc_shelf.proofs.ReadingLaws.StageLemmas.{upto_none}
 
 -- ... fields by offset

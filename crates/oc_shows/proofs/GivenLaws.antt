@@ -1,20 +1,13 @@
 -- What is given for a file are its fields, each free or given.
 use Rattle.std.proofs.Common.{◌≡◌, ℕ, ◌⊎◌, inl, inr, true, List, Some, refl, sym, ◌∙◌, subst}
-use Rattle.std.proofs.lemmas.Bool.{true≢false}
-use Rattle.std.proofs.lemmas.Option.{none-some, same_Some}
-use Rattle.oc_linking.specs.declared.terms.Base.{Base}
+use Rattle.std.proofs.lemmas.{Bool.{true≢false}, Option.{none-some, same_Some}}
+use Rattle.oc_linking.specs.{declared.terms.Base.{Base}, declared.terms.Keep.{Keep}, declared.terms.Less.{Less}, Rules.{Field}}
 use Rattle.oc_linking.specs.declared.terms.Base.TheVariants as base
-use Rattle.oc_linking.specs.declared.terms.Keep.{Keep}
-use Rattle.oc_linking.specs.declared.terms.Less.{Less}
 use Rattle.oc_linking.specs.declared.terms.Less.TheVariants as less
-use Rattle.oc_linking.specs.Rules.{Field}
-use Rattle.oc_neutral.specs.declared.reloc.Reloc.{Reloc}
-use Rattle.oc_neutral.specs.declared.reloc.Target.{Target}
+use Rattle.oc_neutral.specs.{declared.reloc.Reloc.{Reloc}, declared.reloc.Target.{Target}, Dialects.{Dialect, kept_fields, target_by}, Normal.{cancels}}
+use Rattle.oc_neutral.specs.Objects.{Object}
 use Rattle.oc_neutral.specs.declared.reloc.Target.TheVariants as target
 use Rattle.oc_shows.specs.Built.{AreOfFile, DifferencesFit, RelocMap, IsField, IsFree, IsGiven}
-use Rattle.oc_neutral.specs.Dialects.{Dialect, kept_fields, target_by}
-use Rattle.oc_neutral.specs.Normal.{cancels}
-use Rattle.oc_neutral.specs.Objects.{Object}
 
 -- what takes no section is no difference
 pub no_difference : (b : Base) (t : Target) (l : Less) → ((k : ℕ) → l ≡ less.Section k → ⊥) → cancels b t l ≡ true → ⊥

@@ -1,31 +1,18 @@
 -- What a draft holds to which entries were added, one by one.
 use Rattle.std.proofs.Common.{◌≡◌, ℕ, ◌+◌, ◌-◌, ◌/◌, ◌%◌, ◌^◌, ◌<◌, ◌≤◌, ◌⊎◌, inl, inr, Bool, true, false, ◌&&◌, ◌||◌, cond, eqb, List, [], ◌∷◌, map, Option, Some, None, Ok, refl, sym, ◌∙◌, ap, subst, arith}
-use Rattle.std.specs.Prelude.{nat_eq, nat_le, nat_lt, slice_get}
-use Rattle.std.specs.Option.{option_map, option_and_then, option_map_or}
-use Rattle.std.proofs.lemmas.Bool.{eqb-true, eq-eqb, leb-true, ltb-true, true≢false, and_parts, or_cases}
-use Rattle.std.proofs.lemmas.Bool.Decides.{nat_tests}
+use Rattle.std.specs.{Prelude.{nat_eq, nat_le, nat_lt, slice_get}, Option.{option_map, option_and_then, option_map_or}}
+use Rattle.std.proofs.lemmas.{Bool.{eqb-true, eq-eqb, leb-true, ltb-true, true≢false, and_parts, or_cases}, Bool.Decides.{nat_tests}}
 use Rattle.std.proofs.lemmas.Option.{none-some, same_Some, slice_get-map}
-use Rattle.oc_base.specs.declared.format.Format.{Format}
-use Rattle.oc_base.specs.declared.format.Word.{Word}
-use Rattle.oc_base.specs.Formats.{word_for}
+use Rattle.oc_base.specs.{declared.format.Format.{Format}, declared.format.Word.{Word}, Formats.{word_for}}
 use Rattle.oc_linking.specs.Fits.{bytes_of}
 use Rattle.oc_chains.specs.Lists.{list_of}
-use Rattle.oc_neutral.specs.declared.section.Section.{Section}
-use Rattle.oc_neutral.specs.declared.symbol.Symbol.{Symbol}
-use Rattle.oc_neutral.specs.declared.reloc.Reloc.{Reloc}
-use Rattle.oc_neutral.specs.Objects.{Object, reloc_among, reloc_at}
-use Rattle.oc_neutral.specs.Normal.{normal_of}
-use Rattle.oc_neutral.specs.Building.{Draft, is_met, stored_size, reloc_added}
-use Rattle.oc_neutral.specs.Invariants.{CanAdd, IsDraft, groups_of}
-use Rattle.oc_neutral.specs.Faces.{shown_section, frame_of}
-use Rattle.oc_shows.specs.Built.{AddedReloc, RelocMap, and_one, given_by, Makes, HasAdded}
-use Rattle.oc_shows.specs.Again.{IsCovered}
-use Rattle.oc_neutral.proofs.Added.{kept_of, number_left, IsFitting, IsAdded, added}
-use Rattle.oc_shows.proofs.Addable.{sections-added}
-use Rattle.oc_neutral.proofs.Adding.{have_common, wide_enough}
-use Rattle.oc_shows.proofs.Showing.{IsShowing, left_in, normal_in, stored_at}
-use Rattle.oc_neutral.proofs.DraftAdded.{draft_added, groups_added}
-use Rattle.oc_neutral.proofs.WrittenBytes.{byte_at, lies_in}
+use Rattle.oc_neutral.specs.{declared.section.Section.{Section}, declared.symbol.Symbol.{Symbol}, declared.reloc.Reloc.{Reloc}}
+use Rattle.oc_neutral.specs.{Objects.{Object, reloc_among, reloc_at}, Normal.{normal_of}, Building.{Draft, is_met, stored_size, reloc_added}}
+use Rattle.oc_neutral.specs.{Invariants.{CanAdd, IsDraft, groups_of}, Faces.{shown_section, frame_of}}
+use Rattle.oc_shows.specs.{Built.{AddedReloc, RelocMap, and_one, given_by, Makes, HasAdded}, Again.{IsCovered}}
+use Rattle.oc_neutral.proofs.{Added.{kept_of, number_left, IsFitting, IsAdded, added}, Adding.{have_common, wide_enough}}
+use Rattle.oc_neutral.proofs.{DraftAdded.{draft_added, groups_added}, WrittenBytes.{byte_at, lies_in}}
+use Rattle.oc_shows.proofs.{Addable.{sections-added}, Showing.{IsShowing, left_in, normal_in, stored_at}}
 
 -- k bytes from an offset of section s on meet the field of one that is given
 pub record IsMetBy (given : RelocMap) (s at k : ℕ) : Type 0 where

@@ -1,12 +1,7 @@
 -- The keys of groups, gathered one after the other: each stands once, where it begins.
 use Rattle.std.proofs.Common.{◌≡◌, ◌≢◌, ℕ, zero, suc, ◌+◌, ◌<◌, Bool, true, false, cond, List, [], ◌∷◌, ◌++◌, append_assoc, length, map, Option, None, Some, refl, sym, ◌∙◌, ap, subst, arith}
-use Rattle.std.specs.Prelude.{not, ◌||◌, bytes_eq, slice_get}
-use Rattle.std.specs.List.{AllByRecursion, list_any, position_or_len}
-use Rattle.std.specs.Option.{option_map}
-use Rattle.std.proofs.lemmas.Bool.{eq-eqb, ne_eqb, true≢false, or_parts}
-use Rattle.std.proofs.lemmas.List.{length-append}
-use Rattle.std.proofs.lemmas.List.Folds.{list_any-append}
-use Rattle.std.proofs.lemmas.Option.{none-some, same_Some}
+use Rattle.std.specs.{Prelude.{not, ◌||◌, bytes_eq, slice_get}, List.{AllByRecursion, list_any, position_or_len}, Option.{option_map}}
+use Rattle.std.proofs.lemmas.{Bool.{eq-eqb, ne_eqb, true≢false, or_parts}, List.{length-append}, List.Folds.{list_any-append}, Option.{none-some, same_Some}}
 use Rattle.std.proofs.lemmas.Slice.Eq.{bytes_eq-Decides}
 use Rattle.oc_base.specs.Strings.{is_given}
 use Rattle.oc_shows.specs.Computed.{keys_after}

@@ -1,21 +1,14 @@
 -- The keys of the groups of an object are those of its sections, each where it begins.
 use Rattle.std.proofs.Common.{◌≡◌, ◌≢◌, ℕ, ◌+◌, ◌<◌, ◌≤◌, true, false, cond, List, [], ◌∷◌, ◌++◌, length, map, get_or, Option, Some, None, inl, inr, refl, sym, ◌∙◌, ap, subst, arith}
-use Rattle.std.specs.Prelude.{bytes_eq}
-use Rattle.std.specs.List.{AllByRecursion, position_or_len}
-use Rattle.std.specs.Option.{option_map, option_and_then}
+use Rattle.std.specs.{Prelude.{bytes_eq}, List.{AllByRecursion, position_or_len}, Option.{option_map, option_and_then}}
 use Rattle.std.proofs.lemmas.Bool.{cases_lt, eq-eqb, ne_eqb, false_from_ne_true}
 use Rattle.std.proofs.lemmas.List.{length-map, length-append, append_assoc, get_or_append_left, get_or_default, get_or_at}
-use Rattle.std.proofs.lemmas.List.Folds.{list_any_at, list_any_none}
-use Rattle.std.proofs.lemmas.List.Sums.{position_or_len_is}
-use Rattle.std.proofs.lemmas.Option.{same_Some, slice_get-get_or, slice_get-map}
+use Rattle.std.proofs.lemmas.{List.Folds.{list_any_at, list_any_none}, List.Sums.{position_or_len_is}, Option.{same_Some, slice_get-get_or, slice_get-map}}
 use Rattle.std.proofs.lemmas.Slice.Eq.{bytes_eq-Decides}
 use Rattle.oc_base.specs.Strings.{is_given}
-use Rattle.oc_neutral.specs.declared.group.Group.{Group}
-use Rattle.oc_neutral.specs.Invariants.{IsMember, HaveKeys, AreBegun}
-use Rattle.oc_neutral.specs.Faces.{key_of}
+use Rattle.oc_neutral.specs.{declared.group.Group.{Group}, Invariants.{IsMember, HaveKeys, AreBegun}, Faces.{key_of}}
 use Rattle.oc_shows.specs.Computed.{keys_after}
-use Rattle.oc_neutral.proofs.GroupLemmas.{keys_of}
-use Rattle.oc_neutral.proofs.Positions.{there_at}
+use Rattle.oc_neutral.proofs.{GroupLemmas.{keys_of}, Positions.{there_at}}
 
 -- the keys of groups
 abbrev pub all_keys : List Group → List (List ℕ)

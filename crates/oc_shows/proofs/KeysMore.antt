@@ -1,7 +1,6 @@
 -- One section more, while the keys of groups are gathered: what a reader that adds groups as they begin cites.
 use Rattle.std.proofs.Common.{◌≡◌, ℕ, ◌+◌, Bool, true, false, ◌||◌, cond, List, [], ◌∷◌, ◌++◌, append_assoc, append-nil, Option, Some, None, refl, sym, ◌∙◌, ap}
-use Rattle.std.specs.Prelude.{bytes_eq, not, if◌then◌else◌}
-use Rattle.std.specs.List.{list_any, position_or_len}
+use Rattle.std.specs.{Prelude.{bytes_eq, not, if◌then◌else◌}, List.{list_any, position_or_len}}
 use Rattle.std.proofs.lemmas.Bool.{true≢false}
 use Rattle.oc_base.specs.Strings.{is_given}
 use Rattle.oc_shows.specs.Computed.{keys_after}

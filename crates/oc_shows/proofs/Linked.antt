@@ -1,23 +1,15 @@
 -- An object that shows a file shows what linking sees of it, where every section is kept.
 use Rattle.std.proofs.Common.{◌≡◌, ℕ, Bool, true, cond, List, [], ◌∷◌, map, None, refl, sym, ◌∙◌, ap, subst, zero, suc}
 use mathlib.Core.Path.{fun_ext}
-use Rattle.std.specs.Prelude.{slice_get}
-use Rattle.std.specs.Option.{option_map, unwrap_or}
+use Rattle.std.specs.{Prelude.{slice_get}, Option.{option_map, unwrap_or}}
 use Rattle.oc_base.specs.Formats.{word_for}
-use Rattle.oc_linking.specs.declared.terms.Keep.{Keep}
-use Rattle.oc_linking.specs.Parts as parts
-use Rattle.oc_linking.specs.Placing.{Placement, Outside}
-use Rattle.oc_linking.specs.Values.{Valuation, values}
-use Rattle.oc_linking.specs.Images.{Patches, overlays}
-use Rattle.oc_linking.specs.Keeping.{all}
-use Rattle.oc_linking.specs.Linking as linking
+use Rattle.oc_linking.specs.{declared.terms.Keep.{Keep}, Placing.{Placement, Outside}, Values.{Valuation, values}, Images.{Patches, overlays}, Keeping.{all}}
 use Rattle.oc_linking.specs.Shows.{Apart, unders, lives}
+use Rattle.oc_linking.specs.Parts as parts
+use Rattle.oc_linking.specs.Linking as linking
 use Rattle.oc_linking.specs.Shows as shown
-use Rattle.oc_linking.proofs.Alike.{link_shown}
-use Rattle.oc_linking.proofs.Whole.{contents-whole, exports-whole, flags-all, patches-whole}
-use Rattle.oc_neutral.specs.Objects.{Object}
-use Rattle.oc_neutral.specs.Faces.{shown_symbols, linked_object}
-use Rattle.oc_neutral.specs.Dialects.{Dialect, is_kept, is_folded, patches_in, IsDialect}
+use Rattle.oc_linking.proofs.{Alike.{link_shown}, Whole.{contents-whole, exports-whole, flags-all, patches-whole}}
+use Rattle.oc_neutral.specs.{Objects.{Object}, Faces.{shown_symbols, linked_object}, Dialects.{Dialect, is_kept, is_folded, patches_in, IsDialect}}
 use Rattle.oc_shows.specs.Shows.{patches_of, Shows, ShowsAt}
 use Rattle.oc_shows.proofs.Truth.{values_fixed}
 

@@ -1,38 +1,22 @@
 -- What linking sees of a relocation that was brought to its normal form: what a reader's loop compares with the file.
 use Rattle.std.proofs.Common.{◌≡◌, ℕ, refl, sym, ◌∙◌, ap, Bool, true, false, ◌&&◌, cond, eqb, true≢false, List, map, option_map, slice_get, Option, Some, None}
 use Rattle.std.specs.Prelude.{nat_eq, if◌then◌else◌, ℤ}
-use Rattle.std.proofs.lemmas.Bool.{eqb-true}
-use Rattle.std.proofs.lemmas.Option.{slice_get-map}
-use Rattle.oc_base.specs.declared.format.Word.{Word}
-use Rattle.oc_base.specs.Formats.{word_for}
-use Rattle.oc_linking.specs.declared.terms.Patch.{Patch}
-use Rattle.oc_linking.specs.declared.terms.Binding.{Binding}
-use Rattle.oc_linking.specs.declared.terms.Binding.TheVariants.{Local, Global, Undefined, Common, Weak}
+use Rattle.std.proofs.lemmas.{Bool.{eqb-true}, Option.{slice_get-map}}
+use Rattle.oc_base.specs.{declared.format.Word.{Word}, Formats.{word_for}}
+use Rattle.oc_linking.specs.{declared.terms.Patch.{Patch}, declared.terms.Binding.{Binding}}
+use Rattle.oc_linking.specs.{declared.terms.Binding.TheVariants.{Local, Global, Undefined, Common, Weak}, Placing.{Placement}, Values.{Valuation, fixed_site}}
+use Rattle.oc_linking.specs.{Fits.{fits}, Linking.{patch_of}, declared.terms.Base.{Base}, declared.terms.Less.{Less}}
 use Rattle.oc_linking.specs.Parts as parts
-use Rattle.oc_linking.specs.Placing.{Placement}
-use Rattle.oc_linking.specs.Values.{Valuation, fixed_site}
-use Rattle.oc_linking.specs.Fits.{fits}
-use Rattle.oc_linking.specs.Linking.{patch_of}
-use Rattle.oc_linking.specs.declared.terms.Base.{Base}
 use Rattle.oc_linking.specs.declared.terms.Base.TheVariants as base
-use Rattle.oc_linking.specs.declared.terms.Less.{Less}
 use Rattle.oc_algebra.specs.Folds.{low_of}
-use Rattle.oc_neutral.specs.declared.symbol.Symbol.{Symbol}
-use Rattle.oc_neutral.specs.declared.reloc.Target.{Target}
+use Rattle.oc_neutral.specs.{declared.symbol.Symbol.{Symbol}, declared.reloc.Target.{Target}, declared.reloc.Reloc.{Reloc}, declared.normal.Normal.{Normal}}
+use Rattle.oc_neutral.specs.{Objects.{Object, reloc_at}, Building.{Draft}, Normal.{place_among, cancels, normal_of}, Worth.{residue_at, IsTrueToLocals}}
+use Rattle.oc_neutral.specs.{Faces.{number_of, shown_binding, shown_symbol, named_of, field_of}, Dialects.{Look, less_in, target_by}}
 use Rattle.oc_neutral.specs.declared.reloc.Target.TheVariants as target
-use Rattle.oc_neutral.specs.declared.reloc.Reloc.{Reloc}
-use Rattle.oc_neutral.specs.declared.normal.Normal.{Normal}
 use Rattle.oc_neutral.specs.declared.normal.Normal.TheVariants as normal
-use Rattle.oc_neutral.specs.Objects.{Object, reloc_at}
-use Rattle.oc_neutral.specs.Building.{Draft}
-use Rattle.oc_neutral.specs.Normal.{place_among, cancels, normal_of}
-use Rattle.oc_neutral.specs.Worth.{residue_at, IsTrueToLocals}
-use Rattle.oc_neutral.specs.Faces.{number_of, shown_binding, shown_symbol, named_of, field_of}
-use Rattle.oc_neutral.specs.Dialects.{Look, less_in, target_by}
 use Rattle.oc_shows.specs.Shows.{patches_of, IsTrueToFixed}
-use Rattle.oc_neutral.proofs.NormalLemmas.{IsLeft, section_for, kept_left, is_constant, constant_is}
+use Rattle.oc_neutral.proofs.{NormalLemmas.{IsLeft, section_for, kept_left, is_constant, constant_is}, Added.{IsAdded, IsFitting, kept_of, number_left}}
 use Rattle.oc_shows.proofs.NormalValues.{kept_value, constant_value}
-use Rattle.oc_neutral.proofs.Added.{IsAdded, IsFitting, kept_of, number_left}
 
 -- a relocation is folded: its normal form is a constant
 abbrev pub folds : List Symbol → Reloc → Bool

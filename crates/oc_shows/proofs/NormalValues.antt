@@ -1,31 +1,22 @@
 -- The normal form of a relocation has its value.
 use Rattle.std.proofs.Common.{◌≡◌, ℕ, ◌+◌, ◌%◌, refl, sym, ◌∙◌, ap, Bool, true, false, cond, true≢false, List, slice_get, Option, Some, None}
-use Rattle.std.specs.Prelude.{ℤ, pos, ◌+ℤ◌}
-use Rattle.std.specs.Option.{option_map, option_and_then, unwrap_or}
-use Rattle.std.proofs.lemmas.Bool.{eqb-true}
-use Rattle.std.proofs.lemmas.Option.{none-some, same_Some}
+use Rattle.std.specs.{Prelude.{ℤ, pos, ◌+ℤ◌}, Option.{option_map, option_and_then, unwrap_or}}
+use Rattle.std.proofs.lemmas.{Bool.{eqb-true}, Option.{none-some, same_Some}}
 use Rattle.std.proofs.Math.Nat.{mod-mod}
 use Rattle.oc_base.specs.declared.format.Word.{Word}
 use Rattle.oc_linking.specs.declared.terms.Value.TheVariants as value
-use Rattle.oc_linking.specs.declared.terms.Binding.{Binding}
-use Rattle.oc_linking.specs.declared.terms.Binding.TheVariants.{Local, Global, Undefined, Common, Weak}
-use Rattle.oc_linking.specs.Numbers.{modulus, minus, reduced}
-use Rattle.oc_linking.specs.Placing.{Placement, Site}
-use Rattle.oc_linking.specs.Values.{Valued, Valuation, worthless, place_site}
-use Rattle.oc_linking.specs.declared.terms.Base.{Base}
+use Rattle.oc_linking.specs.{declared.terms.Binding.{Binding}, declared.terms.Binding.TheVariants.{Local, Global, Undefined, Common, Weak}}
+use Rattle.oc_linking.specs.{Numbers.{modulus, minus, reduced}, Placing.{Placement, Site}, Values.{Valued, Valuation, worthless, place_site}}
+use Rattle.oc_linking.specs.{declared.terms.Base.{Base}, declared.terms.Less.{Less}}
 use Rattle.oc_linking.specs.declared.terms.Base.TheVariants as base
-use Rattle.oc_linking.specs.declared.terms.Less.{Less}
 use Rattle.oc_linking.specs.declared.terms.Less.TheVariants as less
 use Rattle.oc_algebra.specs.Residues.{residue_of, reduced_number}
 use Rattle.oc_algebra.proofs.Laws.{residue_reduced, residue_moved, residue_small, minus-own, minus-self, minus-place}
-use Rattle.oc_neutral.specs.declared.symbol.Symbol.{Symbol}
-use Rattle.oc_neutral.specs.declared.reloc.Target.{Target}
-use Rattle.oc_neutral.specs.declared.reloc.Target.TheVariants as target
-use Rattle.oc_neutral.specs.declared.reloc.Reloc.{Reloc}
-use Rattle.oc_neutral.specs.declared.normal.Normal.{Normal}
-use Rattle.oc_neutral.specs.declared.normal.Normal.TheVariants as normal
+use Rattle.oc_neutral.specs.{declared.symbol.Symbol.{Symbol}, declared.reloc.Target.{Target}, declared.reloc.Reloc.{Reloc}, declared.normal.Normal.{Normal}}
 use Rattle.oc_neutral.specs.Normal.{Place, local_place, place_among, moved_addend, at_section, by_section, cancels, takes_section, by_place, folded, normal_of}
 use Rattle.oc_neutral.specs.Worth.{target_worth, base_of, less_of, residue_at, IsTrueToLocals}
+use Rattle.oc_neutral.specs.declared.reloc.Target.TheVariants as target
+use Rattle.oc_neutral.specs.declared.normal.Normal.TheVariants as normal
 use Rattle.oc_shows.specs.Laws.{KeepsValue}
 
 -- what a Local at that place is worth

@@ -2,29 +2,18 @@
 -- Mach-O reference, "Relocation Data Structures"; TIS OMF 1.1, "FIXUPP").
 -- The numbers are written out again from the standards, in the order of the numbers; the checks that the standards leave open are our profile.
 use Rattle.std.proofs.Common.{◌≡◌, ℕ, zero, suc, ◌+◌, Bool, true, false, List, [], ◌∷◌, Option, Some, None, refl}
-use Rattle.std.specs.Prelude.{map, is_some, ◌&&◌, not, ℤ, pos, negsuc, neg_ℤ, nat_eq, if◌then◌else◌}
-use Rattle.std.specs.List.{filter, flat_map}
-use Rattle.std.specs.Option.{option_map}
-use Rattle.oc_base.specs.Numbers.{number_at}
-use Rattle.oc_base.specs.declared.format.Format.{Format}
-use Rattle.oc_base.specs.declared.format.Word.{Word}
-use Rattle.oc_base.specs.declared.format.Word.TheVariants.{W32, W64}
+use Rattle.std.specs.{Prelude.{map, is_some, ◌&&◌, not, ℤ, pos, negsuc, neg_ℤ, nat_eq, if◌then◌else◌}, List.{filter, flat_map}, Option.{option_map}}
+use Rattle.oc_base.specs.{Numbers.{number_at}, declared.format.Format.{Format}, declared.format.Word.{Word}, declared.format.Word.TheVariants.{W32, W64}}
 use Rattle.oc_base.specs.declared.format.Format.TheVariants.{Elf32, Elf64, Coff32, Coff64, Mac32, Mac64, Omf}
-use Rattle.oc_linking.specs.declared.terms.Width.{Width}
-use Rattle.oc_linking.specs.declared.terms.Width.TheVariants.{One, Two, Four, Eight}
-use Rattle.oc_linking.specs.declared.terms.Check.{Check}
-use Rattle.oc_linking.specs.declared.terms.Check.TheVariants.{Wrap, Signed, Unsigned, Either}
-use Rattle.oc_linking.specs.declared.terms.Hint.{Hint}
-use Rattle.oc_linking.specs.declared.terms.Hint.TheVariants.{Plain, Call}
-use Rattle.oc_linking.specs.declared.terms.Base.{Base}
+use Rattle.oc_linking.specs.{declared.terms.Width.{Width}, declared.terms.Width.TheVariants.{One, Two, Four, Eight}, declared.terms.Check.{Check}}
+use Rattle.oc_linking.specs.{declared.terms.Check.TheVariants.{Wrap, Signed, Unsigned, Either}, declared.terms.Hint.{Hint}}
+use Rattle.oc_linking.specs.{declared.terms.Hint.TheVariants.{Plain, Call}, declared.terms.Base.{Base}}
 use Rattle.oc_linking.specs.declared.terms.Base.TheVariants.{Address, Slot, GotBase, HomeNumber}
 use Rattle.oc_algebra.specs.Fields.{extended}
 use Rattle.oc_neutral.specs.Rows.{Row, Taken, TakesZero, TakesPlace, TakesGotBase, TakesImageBase, TakesHome, TakesSection, shift_of, same_width, same_check, same_base, same_taken, same_hint}
-use Rattle.oc_neutral.specs.Mach.Relocs.{MachRow, length_of, mach_entries, entry_among}
-use Rattle.oc_neutral.specs.Omf.Relocs.{fixup_row, ByFlat, ByTarget, BySelf}
-use Rattle.oc_neutral.specs.RelocTables.{rows_of, row_of}
+use Rattle.oc_neutral.specs.{Mach.Relocs.{MachRow, length_of, mach_entries, entry_among}, Omf.Relocs.{fixup_row, ByFlat, ByTarget, BySelf}}
+use Rattle.oc_neutral.specs.{RelocTables.{rows_of, row_of}, Shifts.{Symbolic, Sectional, entry_shift, subtractor_shift, sectdiff_shift, fixup_shift}}
 use Rattle.oc_shows.specs.RowFields.{number_in}
-use Rattle.oc_neutral.specs.Shifts.{Symbolic, Sectional, entry_shift, subtractor_shift, sectdiff_shift, fixup_shift}
 
 -- a row, with all its columns: number, second number, width, check, base, what is taken, hint, bytes behind the place, whether it is written
 abbrev is : ℕ → Option ℕ → Width → Check → Base → Taken → Hint → ℕ → Bool → Row

@@ -1,37 +1,20 @@
 -- An object whose symbols stand in another order, with other numbers and with other Locals, looks alike. This says nothing of any format.
 use Rattle.std.proofs.Common.{◌≡◌, ℕ, zero, suc, ◌+◌, false, List, [], ◌∷◌, map, Option, Some, None, refl, sym, ◌∙◌, ap, inl, inr, arith}
-use Rattle.std.specs.Prelude.{slice_get, bytes_eq}
-use Rattle.std.specs.Option.{option_map, option_map_or, unwrap_or}
-use Rattle.std.proofs.lemmas.Bool.{cases_lt}
-use Rattle.std.proofs.lemmas.Slice.Eq.{bytes_eq-Decides}
-use Rattle.std.proofs.lemmas.Option.{none-some, same_Some}
-use Rattle.oc_base.specs.declared.format.Word.{Word}
-use Rattle.oc_base.specs.Formats.{word_for}
-use Rattle.oc_linking.specs.declared.terms.Binding.{Binding}
-use Rattle.oc_linking.specs.declared.terms.Binding.TheVariants.{Local, Global, Undefined, Common, Weak}
-use Rattle.oc_linking.specs.declared.terms.Patch.{Patch}
+use Rattle.std.specs.{Prelude.{slice_get, bytes_eq}, Option.{option_map, option_map_or, unwrap_or}}
+use Rattle.std.proofs.lemmas.{Bool.{cases_lt}, Slice.Eq.{bytes_eq-Decides}, Option.{none-some, same_Some}}
+use Rattle.oc_base.specs.{declared.format.Word.{Word}, Formats.{word_for}}
+use Rattle.oc_linking.specs.{declared.terms.Binding.{Binding}, declared.terms.Binding.TheVariants.{Local, Global, Undefined, Common, Weak}}
+use Rattle.oc_linking.specs.{declared.terms.Patch.{Patch}, Parts.{is_local, by_name}, Placing.{Placement, Outside, DiscardsGroups}}
+use Rattle.oc_linking.specs.{Values.{Valuation, Valued, worthless, numbered, values}, Linking.{Export, export_at, export_of, exports, patch_of}}
+use Rattle.oc_linking.specs.{Numbers.{minus}, Faithful.{Sort, sort_of}, Shows.{object_patches}}
 use Rattle.oc_linking.specs.Parts as parts
-use Rattle.oc_linking.specs.Parts.{is_local, by_name}
-use Rattle.oc_linking.specs.Placing.{Placement, Outside, DiscardsGroups}
-use Rattle.oc_linking.specs.Values.{Valuation, Valued, worthless, numbered, values}
-use Rattle.oc_linking.specs.Linking.{Export, export_at, export_of, exports, patch_of}
-use Rattle.oc_linking.specs.Numbers.{minus}
-use Rattle.oc_linking.specs.Faithful.{Sort, sort_of}
-use Rattle.oc_linking.specs.Shows.{object_patches}
-use Rattle.oc_linking.proofs.Naming.{GivenIn, Single, by_name_same}
-use Rattle.oc_linking.proofs.Worth.{numbered-first, values-edited}
+use Rattle.oc_linking.proofs.{Naming.{GivenIn, Single, by_name_same}, Worth.{numbered-first, values-edited}}
 use Rattle.oc_algebra.specs.Residues.{residue_of}
-use Rattle.oc_neutral.specs.declared.symbol.Symbol.{Symbol}
-use Rattle.oc_neutral.specs.declared.reloc.Reloc.{Reloc}
-use Rattle.oc_neutral.specs.declared.reloc.Target.{Target}
-use Rattle.oc_neutral.specs.declared.reloc.Target.TheVariants as target
-use Rattle.oc_neutral.specs.Objects.{Object, reloc_at}
-use Rattle.oc_neutral.specs.Invariants.{AreDistinct, IsOriginal}
-use Rattle.oc_neutral.specs.Faces.{shown_binding, shown_symbol, shown_symbols, shown_sections, field_of, linked_object}
+use Rattle.oc_neutral.specs.{declared.symbol.Symbol.{Symbol}, declared.reloc.Reloc.{Reloc}, declared.reloc.Target.{Target}, Objects.{Object, reloc_at}}
+use Rattle.oc_neutral.specs.{Invariants.{AreDistinct, IsOriginal}, Faces.{shown_binding, shown_symbol, shown_symbols, shown_sections, field_of, linked_object}}
 use Rattle.oc_neutral.specs.Worth.{target_worth, base_of, less_of, residue_at}
-use Rattle.oc_shows.specs.Shows.{AreNumbered}
-use Rattle.oc_shows.specs.Written.{LooksAlike}
-use Rattle.oc_shows.specs.Reordered.{AreAlike, HasValueOf, IsReordered, ReorderedLooksAlike}
+use Rattle.oc_neutral.specs.declared.reloc.Target.TheVariants as target
+use Rattle.oc_shows.specs.{Shows.{AreNumbered}, Written.{LooksAlike}, Reordered.{AreAlike, HasValueOf, IsReordered, ReorderedLooksAlike}}
 use Rattle.oc_shows.proofs.Truth.{values-own}
 
 -- members of a list that is mapped

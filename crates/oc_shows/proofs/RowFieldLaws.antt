@@ -1,39 +1,24 @@
 -- The relocation that a row makes of an entry is the entry's field.
 use Rattle.std.proofs.Common.{◌≡◌, ℕ, ◌+◌, ◌%◌, List, Option, Some, None, refl, sym, ◌∙◌, ap, subst, arith}
-use Rattle.std.specs.Prelude.{ℤ, slice_get}
-use Rattle.std.specs.Option.{option_map, option_map_or, option_and_then, unwrap_or}
+use Rattle.std.specs.{Prelude.{ℤ, slice_get}, Option.{option_map, option_map_or, option_and_then, unwrap_or}}
 use Rattle.std.proofs.lemmas.Option.{none-some, same_Some, slice_get-map}
-use Rattle.oc_base.specs.declared.format.Word.{Word}
-use Rattle.oc_base.specs.declared.format.Word.TheVariants.{W32, W64}
-use Rattle.oc_linking.specs.declared.terms.Base.{Base}
+use Rattle.oc_base.specs.{declared.format.Word.{Word}, declared.format.Word.TheVariants.{W32, W64}}
+use Rattle.oc_linking.specs.{declared.terms.Base.{Base}, declared.terms.Less.{Less}, declared.terms.Binding.{Binding}}
+use Rattle.oc_linking.specs.{declared.terms.Binding.TheVariants.{Local, Global, Undefined, Common, Weak}, declared.terms.Keep.{Keep}}
+use Rattle.oc_linking.specs.{Numbers.{minus, modulus, reduced}, Placing.{Placement}, Values.{Valued, place_site, worthless}, Rules.{Named, Symbolic, Sectional}}
+use Rattle.oc_linking.specs.Targets.{named_by, symbol_target}
 use Rattle.oc_linking.specs.declared.terms.Base.TheVariants as base
-use Rattle.oc_linking.specs.declared.terms.Less.{Less}
 use Rattle.oc_linking.specs.declared.terms.Less.TheVariants as less
 use Rattle.oc_linking.specs.declared.terms.Value.TheVariants as value
-use Rattle.oc_linking.specs.declared.terms.Binding.{Binding}
-use Rattle.oc_linking.specs.declared.terms.Binding.TheVariants.{Local, Global, Undefined, Common, Weak}
-use Rattle.oc_linking.specs.declared.terms.Keep.{Keep}
-use Rattle.oc_linking.specs.Numbers.{minus, modulus, reduced}
 use Rattle.oc_linking.specs.Parts as parts
-use Rattle.oc_linking.specs.Placing.{Placement}
-use Rattle.oc_linking.specs.Values.{Valued, place_site, worthless}
-use Rattle.oc_linking.specs.Rules.{Named, Symbolic, Sectional}
 use Rattle.oc_linking.specs.Targets as file
-use Rattle.oc_linking.specs.Targets.{named_by, symbol_target}
 use Rattle.oc_algebra.specs.Residues.{residue_of}
 use Rattle.oc_algebra.proofs.Laws.{residue_reduced, residue_moved, minus-place}
-use Rattle.oc_neutral.specs.declared.symbol.Symbol.{Symbol}
+use Rattle.oc_neutral.specs.{declared.symbol.Symbol.{Symbol}, Objects.{Object}, Normal.{local_place, place_among, moved_addend}}
+use Rattle.oc_neutral.specs.{Faces.{named_of, shown_binding, shown_symbol, shown_symbols}, Rows.{Row}, Worth.{base_of, less_of}, Dialects.{Dialect}}
 use Rattle.oc_neutral.specs.declared.reloc.Target.TheVariants as target
-use Rattle.oc_neutral.specs.Objects.{Object}
-use Rattle.oc_neutral.specs.Normal.{local_place, place_among, moved_addend}
-use Rattle.oc_neutral.specs.Faces.{named_of, shown_binding, shown_symbol, shown_symbols}
 use Rattle.oc_neutral.specs.Rows as rows
-use Rattle.oc_neutral.specs.Rows.{Row}
-use Rattle.oc_shows.specs.RowValues.{row_value}
-use Rattle.oc_neutral.specs.Worth.{base_of, less_of}
-use Rattle.oc_neutral.specs.Dialects.{Dialect}
-use Rattle.oc_shows.specs.Built.{named_in}
-use Rattle.oc_shows.specs.RowFields.{IsTarget, RowsAreFields, SectionRowsAreFields}
+use Rattle.oc_shows.specs.{RowValues.{row_value}, Built.{named_in}, RowFields.{IsTarget, RowsAreFields, SectionRowsAreFields}}
 use Rattle.oc_shows.proofs.RowValueLaws.{rows_have_values}
 
 pub rows_are_fields : RowsAreFields

@@ -2,15 +2,12 @@
 use Rattle.std.proofs.Common.{◌≡◌, ℕ, ◌+◌, ◌%◌, ◌∙◌, ap, arith}
 use Rattle.std.specs.Prelude.{neg_ℤ, pos}
 use borrow.Author.Differences.{ints}
-use Rattle.oc_base.specs.declared.format.Word.{Word}
-use Rattle.oc_base.specs.declared.format.Word.TheVariants.{W32, W64}
-use Rattle.oc_linking.specs.Numbers.{modulus, minus}
-use Rattle.oc_linking.specs.Values.{Valued}
+use Rattle.oc_base.specs.{declared.format.Word.{Word}, declared.format.Word.TheVariants.{W32, W64}}
+use Rattle.oc_linking.specs.{Numbers.{modulus, minus}, Values.{Valued}}
 use Rattle.oc_algebra.specs.Residues.{residue_of}
 use Rattle.oc_algebra.proofs.Laws.{residue_shifted}
 use Rattle.oc_neutral.specs.Rows as rows
-use Rattle.oc_neutral.specs.Rows.{shift_of}
-use Rattle.oc_neutral.specs.Worth.{target_worth, base_of, less_of, residue_at}
+use Rattle.oc_neutral.specs.{Rows.{shift_of}, Worth.{target_worth, base_of, less_of, residue_at}}
 use Rattle.oc_shows.specs.RowValues.{RowsHaveValues}
 
 -- a shift back is more to take

@@ -1,41 +1,27 @@
 -- The sections and the symbols that are seen of an object that was written are those of the object, in another order and with other numbers.
 use Rattle.std.proofs.Common.{◌≡◌, ℕ, zero, suc, ◌+◌, ◌<◌, Bool, true, false, cond, List, [], ◌∷◌, map, replicate, Option, Some, None, refl, sym, ◌∙◌, ap}
-use Rattle.std.specs.Prelude.{slice_get, nat_eq, filter_map}
-use Rattle.std.specs.List.{enumerate_from, cons_option}
+use Rattle.std.specs.{Prelude.{slice_get, nat_eq, filter_map}, List.{enumerate_from, cons_option}}
 use Rattle.std.specs.Option.{option_map, option_map_or, option_and_then, unwrap_or}
-use Rattle.std.proofs.lemmas.Bool.{eq-eqb, ne_eqb, true≢false}
-use Rattle.std.proofs.lemmas.Option.{none-some, same_Some}
-use Rattle.oc_base.specs.declared.format.Word.{Word}
-use Rattle.oc_base.specs.Formats.{word_for}
-use Rattle.oc_linking.specs.declared.terms.Fallback.{Fallback}
+use Rattle.std.proofs.lemmas.{Bool.{eq-eqb, ne_eqb, true≢false}, Option.{none-some, same_Some}}
+use Rattle.oc_base.specs.{declared.format.Word.{Word}, Formats.{word_for}}
+use Rattle.oc_linking.specs.{declared.terms.Fallback.{Fallback}, declared.terms.Binding.{Binding}}
+use Rattle.oc_linking.specs.{declared.terms.Binding.TheVariants.{Local, Global, Undefined, Common, Weak}, Parts.{is_local}}
+use Rattle.oc_linking.specs.Placing.{Placement, Outside, Site, DiscardsGroups, nowhere, is_fallback_gone}
+use Rattle.oc_linking.specs.{Values.{Valued, numbered, strong_site, fallback_site, place_site, site_of}, Linking.{Address, export_at}}
+use Rattle.oc_linking.specs.Faithful.{sort_of, shape_of}
 use Rattle.oc_linking.specs.declared.terms.Fallback.TheVariants as fallback
 use Rattle.oc_linking.specs.declared.terms.Value.TheVariants as value
-use Rattle.oc_linking.specs.declared.terms.Binding.{Binding}
-use Rattle.oc_linking.specs.declared.terms.Binding.TheVariants.{Local, Global, Undefined, Common, Weak}
 use Rattle.oc_linking.specs.Parts as parts
-use Rattle.oc_linking.specs.Parts.{is_local}
-use Rattle.oc_linking.specs.Placing.{Placement, Outside, Site, DiscardsGroups, nowhere, is_fallback_gone}
-use Rattle.oc_linking.specs.Values.{Valued, numbered, strong_site, fallback_site, place_site, site_of}
-use Rattle.oc_linking.specs.Linking.{Address, export_at}
-use Rattle.oc_linking.specs.Faithful.{sort_of, shape_of}
 use Rattle.oc_linking.proofs.Worth.{numbered-first}
-use Rattle.oc_chains.specs.declared.field.Field.{Field}
-use Rattle.oc_chains.specs.Lists.{list_of}
-use Rattle.oc_neutral.specs.declared.section.Section.{Section}
-use Rattle.oc_neutral.specs.declared.symbol.Symbol.{Symbol}
-use Rattle.oc_neutral.specs.declared.reloc.Reloc.{Reloc}
-use Rattle.oc_neutral.specs.Objects.{Object, reloc_among}
-use Rattle.oc_neutral.specs.Building.{is_zero}
-use Rattle.oc_neutral.specs.Normal.{Place}
-use Rattle.oc_neutral.specs.Invariants.{IsOriginal}
+use Rattle.oc_chains.specs.{declared.field.Field.{Field}, Lists.{list_of}}
+use Rattle.oc_neutral.specs.{declared.section.Section.{Section}, declared.symbol.Symbol.{Symbol}, declared.reloc.Reloc.{Reloc}, Objects.{Object, reloc_among}}
+use Rattle.oc_neutral.specs.{Building.{is_zero}, Normal.{Place}, Invariants.{IsOriginal}}
 use Rattle.oc_neutral.specs.Faces.{number_of, key_of, shown_section, shown_sections, contents_of, shown_fallback, shown_binding, shown_symbol, shown_symbols}
-use Rattle.oc_shows.specs.Shows.{AreNumbered}
 use Rattle.oc_neutral.specs.KeySymbols.{global_place}
-use Rattle.oc_shows.specs.Manners.{Manner}
+use Rattle.oc_shows.specs.{Shows.{AreNumbered}, Manners.{Manner}}
 use Rattle.oc_shows.specs.Seen.{place_at, seen_with, seen_symbol, seen_symbols, seen_section, seen_binding, seen_reloc, seen_field, new_position}
 use Rattle.oc_shows.specs.Reordered.{AreAlike}
-use Rattle.oc_shows.proofs.SeenLines.{IsShown}
-use Rattle.oc_shows.proofs.Reordered.{member_map, of_map, original_found}
+use Rattle.oc_shows.proofs.{SeenLines.{IsShown}, Reordered.{member_map, of_map, original_found}}
 use Rattle.oc_shelf.proofs.WritingLaws.MemberLemmas.{position_first}
 
 -- a filter that leaves all

@@ -1,28 +1,14 @@
 -- The symbol table of each family shows each symbol once and every nonlocal, and has a bounded number of entries.
 use Rattle.std.proofs.Common.{◌≡◌, ℕ, zero, suc, ◌+◌, ◌*◌, ◌<◌, ◌≤◌, Bool, true, false, ◌&&◌, ◌||◌, cond, not, List, [], ◌∷◌, ◌++◌, length, map, Option, Some, None, refl, sym, ◌∙◌, ap, arith}
-use Rattle.std.specs.Prelude.{slice_get, nat_eq, filter, flat_map}
-use Rattle.std.specs.List.{enumerate_from, list_any, range_with_len}
-use Rattle.std.specs.Option.{option_map_or, option_and_then}
-use Rattle.std.proofs.lemmas.Bool.{true≢false, eqb-true}
-use Rattle.std.proofs.lemmas.Option.{none-some, same_Some}
-use Rattle.std.proofs.lemmas.List.Sums.{count_by-le-length, length-filter}
+use Rattle.std.specs.{Prelude.{slice_get, nat_eq, filter, flat_map}, List.{enumerate_from, list_any, range_with_len}, Option.{option_map_or, option_and_then}}
+use Rattle.std.proofs.lemmas.{Bool.{true≢false, eqb-true}, Option.{none-some, same_Some}, List.Sums.{count_by-le-length, length-filter}}
 use Rattle.std.proofs.lemmas.List.FromFn.{length-range_with_len}
-use Rattle.oc_base.specs.declared.format.Word.{Word}
-use Rattle.oc_base.specs.declared.format.Word.TheVariants.{W32, W64}
+use Rattle.oc_base.specs.{declared.format.Word.{Word}, declared.format.Word.TheVariants.{W32, W64}}
 use Rattle.oc_linking.specs.declared.terms.Fallback.TheVariants as fallback
-use Rattle.oc_linking.specs.declared.terms.Binding.{Binding}
-use Rattle.oc_linking.specs.declared.terms.Binding.TheVariants.{Local, Global, Undefined, Common, Weak}
-use Rattle.oc_linking.specs.Parts.{is_local}
-use Rattle.oc_neutral.specs.Bindings.{is_zero}
-use Rattle.oc_neutral.specs.declared.group.Group.{Group}
-use Rattle.oc_neutral.specs.declared.section.Section.{Section}
-use Rattle.oc_neutral.specs.declared.symbol.Symbol.{Symbol}
-use Rattle.oc_neutral.specs.Objects.{Object}
-use Rattle.oc_neutral.specs.Dressing.{is_common}
-use Rattle.oc_neutral.specs.Normal.{Place}
-use Rattle.oc_neutral.specs.KeySymbols.{global_place, group_at, is_key_name, is_key_at, is_key}
-use Rattle.oc_neutral.specs.WrittenSymbols.{is_written}
-use Rattle.oc_neutral.specs.Mach.SectionSymbols.{needed_sections, needs_section_symbol}
+use Rattle.oc_linking.specs.{declared.terms.Binding.{Binding}, declared.terms.Binding.TheVariants.{Local, Global, Undefined, Common, Weak}, Parts.{is_local}}
+use Rattle.oc_neutral.specs.{Bindings.{is_zero}, declared.group.Group.{Group}, declared.section.Section.{Section}, declared.symbol.Symbol.{Symbol}}
+use Rattle.oc_neutral.specs.{Objects.{Object}, Dressing.{is_common}, Normal.{Place}, KeySymbols.{global_place, group_at, is_key_name, is_key_at, is_key}}
+use Rattle.oc_neutral.specs.{WrittenSymbols.{is_written}, Mach.SectionSymbols.{needed_sections, needs_section_symbol}}
 use Rattle.oc_shows.specs.SymbolLines.{Line, silent, one, lines_where, lines_of, local_lines, is_outer, is_global, is_undefined, is_weak_with, is_defined, needs_signature, needs_default, coff_entries, coff_section_lines, elf_lines, coff_lines, mach_lines, omf_lines}
 use Rattle.oc_shows.proofs.SeenLines.{IsTable}
 use Rattle.oc_shows.proofs.SeenTables.{IsPart, shown_count, entry_count, part_table, part_empty, part_more, part_silent, part_behind, part_repeated, part_join, part_where}

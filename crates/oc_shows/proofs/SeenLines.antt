@@ -1,13 +1,10 @@
 -- The lines of a symbol table show each symbol once, with numbers that differ.
 use Rattle.std.proofs.Common.{◌≡◌, ◌≢◌, ℕ, zero, suc, ◌+◌, ◌<◌, ◌≤◌, false, List, [], ◌∷◌, Option, Some, None, refl, sym, ◌∙◌, ap, arith}
-use Rattle.std.specs.Prelude.{slice_get}
-use Rattle.std.specs.Option.{option_map_or}
+use Rattle.std.specs.{Prelude.{slice_get}, Option.{option_map_or}}
 use Rattle.std.proofs.lemmas.Option.{none-some, same_Some}
 use Rattle.oc_linking.specs.Parts.{is_local}
-use Rattle.oc_neutral.specs.declared.symbol.Symbol.{Symbol}
-use Rattle.oc_neutral.specs.Objects.{Object}
-use Rattle.oc_shows.specs.SymbolLines.{Line}
-use Rattle.oc_shows.specs.Seen.{shown_from}
+use Rattle.oc_neutral.specs.{declared.symbol.Symbol.{Symbol}, Objects.{Object}}
+use Rattle.oc_shows.specs.{SymbolLines.{Line}, Seen.{shown_from}}
 
 -- the symbols that are shown are ones of the object, each once, with numbers that differ, and every nonlocal is among them
 pub record IsShown (n : Object) (shown : List (ℕ × ℕ)) : Type 0 where

@@ -2,37 +2,22 @@
 -- objects of an independent model with other names and sizes; the others were worked out by hand. Contents are left out: they are only copied.
 use Rattle.std.proofs.Common.{◌≡◌, ℕ, ◌+◌, List, [], ◌∷◌, map, Option, Some, None, false, refl}
 use Rattle.std.specs.Prelude.{codes, pos}
-use Rattle.oc_base.specs.declared.format.Format.{Format}
-use Rattle.oc_base.specs.declared.format.Format.TheVariants.{Elf32, Elf64, Coff32, Coff64, Mac32, Mac64, Omf}
-use Rattle.oc_linking.specs.declared.terms.Kind.{Kind}
-use Rattle.oc_linking.specs.declared.terms.Kind.TheVariants.{Code, ReadOnly, Data, Zero, Fini}
-use Rattle.oc_linking.specs.declared.terms.Mark.{Mark}
+use Rattle.oc_base.specs.{declared.format.Format.{Format}, declared.format.Format.TheVariants.{Elf32, Elf64, Coff32, Coff64, Mac32, Mac64, Omf}}
+use Rattle.oc_linking.specs.{declared.terms.Kind.{Kind}, declared.terms.Kind.TheVariants.{Code, ReadOnly, Data, Zero, Fini}, declared.terms.Mark.{Mark}}
+use Rattle.oc_linking.specs.{declared.terms.Visibility.{Visibility}, declared.terms.Visibility.TheVariants.{Default, Internal, Hidden, Protected}}
+use Rattle.oc_linking.specs.{declared.terms.Value.TheVariants.{Place, Absolute}, declared.terms.Binding.{Binding}}
+use Rattle.oc_linking.specs.{declared.terms.Binding.TheVariants.{Local, Global, Undefined, Common, Weak}, declared.terms.Base.TheVariants.{Address}}
+use Rattle.oc_linking.specs.{declared.terms.Less.{Less}, declared.terms.Width.TheVariants.{Four}, declared.terms.Check.TheVariants.{Wrap}}
+use Rattle.oc_linking.specs.{declared.terms.Hint.{Hint}, declared.terms.Hint.TheVariants.{Plain, Call}}
 use Rattle.oc_linking.specs.declared.terms.Mark.TheVariants as mark
-use Rattle.oc_linking.specs.declared.terms.Visibility.{Visibility}
-use Rattle.oc_linking.specs.declared.terms.Visibility.TheVariants.{Default, Internal, Hidden, Protected}
-use Rattle.oc_linking.specs.declared.terms.Value.TheVariants.{Place, Absolute}
 use Rattle.oc_linking.specs.declared.terms.Fallback.TheVariants as fallback
-use Rattle.oc_linking.specs.declared.terms.Binding.{Binding}
-use Rattle.oc_linking.specs.declared.terms.Binding.TheVariants.{Local, Global, Undefined, Common, Weak}
-use Rattle.oc_linking.specs.declared.terms.Base.TheVariants.{Address}
-use Rattle.oc_linking.specs.declared.terms.Less.{Less}
 use Rattle.oc_linking.specs.declared.terms.Less.TheVariants as less
-use Rattle.oc_linking.specs.declared.terms.Width.TheVariants.{Four}
-use Rattle.oc_linking.specs.declared.terms.Check.TheVariants.{Wrap}
-use Rattle.oc_linking.specs.declared.terms.Hint.{Hint}
-use Rattle.oc_linking.specs.declared.terms.Hint.TheVariants.{Plain, Call}
 use Rattle.oc_algebra.specs.Residues.{residue_of, reduced_number}
 use Rattle.oc_chains.specs.declared.field.Field.{Field}
-use Rattle.oc_neutral.specs.declared.section.Section.{Section}
-use Rattle.oc_neutral.specs.declared.symbol.Symbol.{Symbol}
-use Rattle.oc_neutral.specs.declared.reloc.Reloc.{Reloc}
-use Rattle.oc_neutral.specs.declared.reloc.Target.{Target}
-use Rattle.oc_neutral.specs.declared.reloc.Target.TheVariants as target
-use Rattle.oc_neutral.specs.Objects.{Object}
-use Rattle.oc_neutral.specs.Elf.Kinds.{elf_kind}
-use Rattle.oc_neutral.specs.Coff.Kinds.{coff_kind}
-use Rattle.oc_neutral.specs.Mach.Kinds.{mach_kind}
+use Rattle.oc_neutral.specs.{declared.section.Section.{Section}, declared.symbol.Symbol.{Symbol}, declared.reloc.Reloc.{Reloc}, declared.reloc.Target.{Target}}
+use Rattle.oc_neutral.specs.{Objects.{Object}, Elf.Kinds.{elf_kind}, Coff.Kinds.{coff_kind}, Mach.Kinds.{mach_kind}}
 use Rattle.oc_neutral.specs.Mach.SectionSymbols.{needs_section_symbol, needed_sections}
+use Rattle.oc_neutral.specs.declared.reloc.Target.TheVariants as target
 use Rattle.oc_shows.specs.Seen.{seen_symbols, seen}
 
 -- a section with that name, kind, tag and number, in a group or in none

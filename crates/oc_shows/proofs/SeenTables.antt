@@ -1,13 +1,9 @@
 -- The lines of the symbols that pass a test show these, each once; and lists of lines that show different symbols stand behind one another.
 use Rattle.std.proofs.Common.{◌≡◌, ◌⊎◌, ℕ, zero, suc, ◌+◌, ◌*◌, ◌<◌, ◌≤◌, Bool, true, false, ◌||◌, cond, List, [], ◌∷◌, ◌++◌, length, map, replicate, Option, Some, None, refl, sym, ◌∙◌, ap, subst, inl, inr, arith}
-use Rattle.std.specs.Prelude.{slice_get, filter, count_by, sum_by}
-use Rattle.std.specs.List.{enumerate_from}
-use Rattle.std.proofs.lemmas.Bool.{true≢false}
-use Rattle.std.proofs.lemmas.Option.{none-some, same_Some}
-use Rattle.std.proofs.lemmas.List.Sums.{sum_by-append, sum_by-cons}
+use Rattle.std.specs.{Prelude.{slice_get, filter, count_by, sum_by}, List.{enumerate_from}}
+use Rattle.std.proofs.lemmas.{Bool.{true≢false}, Option.{none-some, same_Some}, List.Sums.{sum_by-append, sum_by-cons}}
 use Rattle.oc_linking.specs.Parts.{is_local}
-use Rattle.oc_neutral.specs.declared.symbol.Symbol.{Symbol}
-use Rattle.oc_neutral.specs.Objects.{Object}
+use Rattle.oc_neutral.specs.{declared.symbol.Symbol.{Symbol}, Objects.{Object}}
 use Rattle.oc_shows.specs.SymbolLines.{Line, silent, lines_where}
 use Rattle.oc_shows.proofs.SeenLines.{IsTable}
 

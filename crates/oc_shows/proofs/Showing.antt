@@ -1,27 +1,15 @@
 -- What an object holds to which relocations were given, and the object before: what is compared with a file.
 use Rattle.std.proofs.Common.{◌≡◌, ℕ, ◌+◌, ◌/◌, ◌%◌, ◌^◌, ◌<◌, ◌≤◌, false, List, map, Some, None, refl, sym, ap, subst}
-use Rattle.std.specs.Prelude.{slice_get}
-use Rattle.std.specs.List.{AllByRecursion}
-use Rattle.std.specs.Option.{option_and_then, option_map_or}
+use Rattle.std.specs.{Prelude.{slice_get}, List.{AllByRecursion}, Option.{option_and_then, option_map_or}}
 use Rattle.oc_base.specs.Formats.{word_for}
-use Rattle.oc_linking.specs.declared.terms.Keep.{Keep}
-use Rattle.oc_linking.specs.Fits.{bytes_of}
+use Rattle.oc_linking.specs.{declared.terms.Keep.{Keep}, Fits.{bytes_of}}
 use Rattle.oc_algebra.specs.Residues.{reduced_number}
-use Rattle.oc_neutral.specs.declared.section.Section.{Section}
-use Rattle.oc_neutral.specs.declared.reloc.Reloc.{Reloc}
-use Rattle.oc_neutral.specs.declared.normal.Normal.{Normal}
+use Rattle.oc_neutral.specs.{declared.section.Section.{Section}, declared.reloc.Reloc.{Reloc}, declared.normal.Normal.{Normal}, Objects.{Object, reloc_at}}
+use Rattle.oc_neutral.specs.{Normal.{by_section, cancels, folded, normal_of, place_among, takes_section}, Building.{stored_size}, Dialects.{Dialect}}
+use Rattle.oc_neutral.specs.{Faces.{shown_section, shown_sections, shown_symbols, frame_of}, Invariants.{HasItsBytes}}
 use Rattle.oc_neutral.specs.declared.normal.Normal.TheVariants as normal
-use Rattle.oc_neutral.specs.Objects.{Object, reloc_at}
-use Rattle.oc_neutral.specs.Normal.{by_section, cancels, folded, normal_of, place_among, takes_section}
-use Rattle.oc_neutral.specs.Building.{stored_size}
-use Rattle.oc_neutral.specs.Dialects.{Dialect}
-use Rattle.oc_neutral.specs.Faces.{shown_section, shown_sections, shown_symbols, frame_of}
-use Rattle.oc_neutral.specs.Invariants.{HasItsBytes}
-use Rattle.oc_shows.specs.Shows.{AreNumbered}
-use Rattle.oc_shows.specs.Built.{RelocMap}
-use Rattle.oc_shows.specs.Again.{IsCovered}
-use Rattle.oc_neutral.proofs.Added.{kept_of, number_left, IsFitting}
-use Rattle.oc_neutral.proofs.WrittenBytes.{byte_at}
+use Rattle.oc_shows.specs.{Shows.{AreNumbered}, Built.{RelocMap}, Again.{IsCovered}}
+use Rattle.oc_neutral.proofs.{Added.{kept_of, number_left, IsFitting}, WrittenBytes.{byte_at}}
 
 -- the normal form of a relocation among the symbols of an object
 abbrev pub normal_in : Object → ℕ → ℕ → Reloc → Normal

@@ -1,43 +1,22 @@
 -- An object that shows a file is the file's.
 use Rattle.std.proofs.Common.{◌≡◌, ℕ, ◌<◌, ◌≤◌, Bool, true, false, cond, List, [], ◌∷◌, length, map, Option, Some, None, refl, sym, ◌∙◌, ap, arith}
-use Rattle.std.specs.Prelude.{bytes_eq, slice_get}
-use Rattle.std.specs.List.{AllByRecursion, enumerate_from, position_or_len}
-use Rattle.std.specs.Option.{option_map, option_and_then}
-use Rattle.std.proofs.lemmas.List.{length-map}
-use Rattle.std.proofs.lemmas.Option.{none-some, same_Some, slice_get-map, slice_get_within, get_or_from_slice_get}
+use Rattle.std.specs.{Prelude.{bytes_eq, slice_get}, List.{AllByRecursion, enumerate_from, position_or_len}, Option.{option_map, option_and_then}}
+use Rattle.std.proofs.lemmas.{List.{length-map}, Option.{none-some, same_Some, slice_get-map, slice_get_within, get_or_from_slice_get}}
 use Rattle.oc_base.specs.Formats.{word_for}
-use Rattle.oc_linking.specs.declared.terms.Keep.{Keep}
-use Rattle.oc_linking.specs.declared.terms.Patch.{Patch}
+use Rattle.oc_linking.specs.{declared.terms.Keep.{Keep}, declared.terms.Patch.{Patch}, Placing.{zeros}, Values.{Valuation}, Images.{Patches, overlay}}
+use Rattle.oc_linking.specs.{Linking.{patch_of}, Shows.{live_of, unders}}
 use Rattle.oc_linking.specs.Parts as parts
-use Rattle.oc_linking.specs.Placing.{zeros}
-use Rattle.oc_linking.specs.Values.{Valuation}
-use Rattle.oc_linking.specs.Images.{Patches, overlay}
-use Rattle.oc_linking.specs.Linking.{patch_of}
-use Rattle.oc_linking.specs.Shows.{live_of, unders}
-use Rattle.oc_chains.specs.declared.field.Field.{Field}
-use Rattle.oc_chains.specs.Fields.{end_of}
-use Rattle.oc_chains.specs.Lists.{list_of}
-use Rattle.oc_neutral.specs.declared.section.Section.{Section}
-use Rattle.oc_neutral.specs.declared.symbol.Symbol.{Symbol}
-use Rattle.oc_neutral.specs.declared.reloc.Reloc.{Reloc}
-use Rattle.oc_neutral.specs.Objects.{Object, reloc_at}
-use Rattle.oc_neutral.specs.Building.{is_zero}
-use Rattle.oc_neutral.specs.Invariants.{HasItsBytes, IsHeld, IsMember, IsSymbol, IsObject, groups_of}
-use Rattle.oc_neutral.specs.Worth.{residue_at}
+use Rattle.oc_chains.specs.{declared.field.Field.{Field}, Fields.{end_of}, Lists.{list_of}}
+use Rattle.oc_neutral.specs.{declared.section.Section.{Section}, declared.symbol.Symbol.{Symbol}, declared.reloc.Reloc.{Reloc}, Objects.{Object, reloc_at}}
+use Rattle.oc_neutral.specs.{Building.{is_zero}, Invariants.{HasItsBytes, IsHeld, IsMember, IsSymbol, IsObject, groups_of}, Worth.{residue_at}}
 use Rattle.oc_neutral.specs.Faces.{contents_of, field_of, shown_section, shown_sections, shown_symbol, shown_symbols, frame_of}
 use Rattle.oc_neutral.specs.Dialects.{Dialect, Look, is_folded, looks_in}
-use Rattle.oc_shows.specs.Shows.{reloc_look, Shows, ShowsAt}
-use Rattle.oc_shows.specs.Laws.{ShownObjectIsComputed}
+use Rattle.oc_shows.specs.{Shows.{reloc_look, Shows, ShowsAt}, Laws.{ShownObjectIsComputed}}
 use Rattle.oc_shows.specs.Computed.{zeros_outside, zero_values, zero_patches, keys_in, keys_after, computed_section, computed_symbol, reloc_for, computed_field, computed_fields, object_in}
-use Rattle.oc_shows.proofs.Truth.{values_fixed}
-use Rattle.oc_neutral.proofs.Positions.{each_at, each_weaker, images_same, there_at}
-use Rattle.oc_neutral.proofs.GroupLemmas.{keys-shown}
-use Rattle.oc_shows.proofs.KeysBegun.{all_keys, groups-keys, keys-begun, member_position}
-use Rattle.oc_neutral.proofs.Numbered.{computed_list, overlay_at}
-use Rattle.oc_neutral.proofs.SameParts.{bytes_are, bytes_within, filled, parts_same}
-use Rattle.oc_neutral.proofs.FoundRelocs.{widths_at, found_at}
-use Rattle.oc_shows.proofs.PlacedSymbols.{symbol-computed}
+use Rattle.oc_shows.proofs.{Truth.{values_fixed}, KeysBegun.{all_keys, groups-keys, keys-begun, member_position}, PlacedSymbols.{symbol-computed}}
 use Rattle.oc_shows.proofs.ComputedRelocs.{reloc-computed}
+use Rattle.oc_neutral.proofs.{Positions.{each_at, each_weaker, images_same, there_at}, GroupLemmas.{keys-shown}, Numbered.{computed_list, overlay_at}}
+use Rattle.oc_neutral.proofs.{SameParts.{bytes_are, bytes_within, filled, parts_same}, FoundRelocs.{widths_at, found_at}}
 use Rattle.oc_neutral.proofs.Scanning.{field_at, field_found, scanned}
 
 -- a frame is in the group of its section

@@ -1,32 +1,20 @@
 -- What a Builder holds of a file before its relocations shows the file's sections and symbols.
 use Rattle.std.proofs.Common.{◌≡◌, ℕ, zero, suc, Bool, true, false, ◌||◌, cond, eqb, List, [], ◌∷◌, ◌++◌, append_assoc, map, replicate, Option, Some, None, Ok, refl, sym, ◌∙◌, ap, subst}
-use Rattle.std.specs.Prelude.{bytes_eq, nat_eq, slice_get}
-use Rattle.std.specs.List.{find, list_any, position_or_len}
+use Rattle.std.specs.{Prelude.{bytes_eq, nat_eq, slice_get}, List.{find, list_any, position_or_len}}
 use Rattle.std.specs.Option.{is_some, option_map, option_map_or, option_and_then}
-use Rattle.std.proofs.lemmas.Bool.{eqb-true, true≢false}
-use Rattle.std.proofs.lemmas.List.Folds.{find_at, list_any-append}
-use Rattle.std.proofs.lemmas.Option.{none-some, same_Some, slice_get-map}
+use Rattle.std.proofs.lemmas.{Bool.{eqb-true, true≢false}, List.Folds.{find_at, list_any-append}, Option.{none-some, same_Some, slice_get-map}}
 use Rattle.std.proofs.lemmas.Slice.Eq.{bytes_eq-Decides}
-use Rattle.oc_base.specs.declared.format.Format.{Format}
-use Rattle.oc_base.specs.Strings.{is_given}
+use Rattle.oc_base.specs.{declared.format.Format.{Format}, Strings.{is_given}}
 use Rattle.oc_linking.specs.declared.terms.Fallback.TheVariants as fallback
-use Rattle.oc_linking.specs.declared.terms.Binding.{Binding}
-use Rattle.oc_linking.specs.declared.terms.Binding.TheVariants.{Local, Global, Undefined, Common, Weak}
+use Rattle.oc_linking.specs.{declared.terms.Binding.{Binding}, declared.terms.Binding.TheVariants.{Local, Global, Undefined, Common, Weak}, Values.{numbered}}
 use Rattle.oc_linking.specs.Parts as parts
-use Rattle.oc_linking.specs.Values.{numbered}
 use Rattle.oc_chains.specs.Lists.{Lists, list_of}
-use Rattle.oc_neutral.specs.declared.group.Group.{Group}
-use Rattle.oc_neutral.specs.declared.section.Section.{Section}
-use Rattle.oc_neutral.specs.declared.symbol.Symbol.{Symbol}
-use Rattle.oc_neutral.specs.declared.reloc.Reloc.{Reloc}
-use Rattle.oc_neutral.specs.declared.normal.Folded.{Folded}
-use Rattle.oc_neutral.specs.Building.{Draft, group_added, is_zero, limit_passed, section_added, symbol_added}
+use Rattle.oc_neutral.specs.{declared.group.Group.{Group}, declared.section.Section.{Section}, declared.symbol.Symbol.{Symbol}, declared.reloc.Reloc.{Reloc}}
+use Rattle.oc_neutral.specs.{declared.normal.Folded.{Folded}, Building.{Draft, group_added, is_zero, limit_passed, section_added, symbol_added}}
+use Rattle.oc_neutral.specs.{Faces.{key_of, number_of, shown_binding, shown_section, shown_symbol}, Keeping.{is_again}}
 use Rattle.oc_shows.specs.Computed.{keys_after, keys_in, position_of, placed_binding, computed_symbol}
-use Rattle.oc_neutral.specs.Faces.{key_of, number_of, shown_binding, shown_section, shown_symbol}
-use Rattle.oc_neutral.specs.Keeping.{is_again}
 use Rattle.oc_shows.specs.Started.{StartIsStarted, fieldless, groups_by, plain_draft, stored_section}
-use Rattle.oc_neutral.proofs.MoreSections.{section_taken}
-use Rattle.oc_neutral.proofs.MoreSymbols.{symbol_taken}
+use Rattle.oc_neutral.proofs.{MoreSections.{section_taken}, MoreSymbols.{symbol_taken}}
 
 -- ... step by step
 

@@ -1,14 +1,9 @@
 -- What the symbols of a file are worth, under any outside map, is true to its Locals and pinned symbols, where their numbers differ.
 use Rattle.std.proofs.Common.{◌≡◌, ℕ, cond, List, Some, ◌∙◌, ap}
-use Rattle.std.specs.Prelude.{slice_get}
-use Rattle.std.specs.Option.{option_map, unwrap_or}
+use Rattle.std.specs.{Prelude.{slice_get}, Option.{option_map, unwrap_or}}
 use Rattle.oc_base.specs.declared.format.Word.{Word}
-use Rattle.oc_linking.specs.Numbers.{or_else}
-use Rattle.oc_linking.specs.Parts.{Symbol}
-use Rattle.oc_linking.specs.Placing.{Placement, Outside}
-use Rattle.oc_linking.specs.Values.{values, value_of, worthless, numbered, LeavesFixed}
-use Rattle.oc_linking.proofs.Truth.{values_true}
-use Rattle.oc_linking.proofs.Worth.{numbered-first}
+use Rattle.oc_linking.specs.{Numbers.{or_else}, Parts.{Symbol}, Placing.{Placement, Outside}, Values.{values, value_of, worthless, numbered, LeavesFixed}}
+use Rattle.oc_linking.proofs.{Truth.{values_true}, Worth.{numbered-first}}
 use Rattle.oc_shows.specs.Shows.{IsTrueToFixed, AreNumbered}
 
 -- a symbol is found by its number

@@ -1,17 +1,11 @@
 -- An object whose fields are read again is shown (our profile): what a writer has to know of its file.
 use Rattle.std.specs.Prelude.{◌≡◌, ℕ, ◌+◌, ◌<◌, ◌≤◌, ◌⊎◌, List, length, map, slice_get, get_or, Some}
 use Rattle.oc_base.specs.Formats.{word_for}
-use Rattle.oc_linking.specs.Fits.{bytes_of}
-use Rattle.oc_linking.specs.Keeping.{all}
+use Rattle.oc_linking.specs.{Fits.{bytes_of}, Keeping.{all}}
 use Rattle.oc_linking.specs.Parts as parts
-use Rattle.oc_neutral.specs.declared.section.Section.{Section}
-use Rattle.oc_neutral.specs.declared.reloc.Reloc.{Reloc}
-use Rattle.oc_neutral.specs.Objects.{Object, reloc_at}
-use Rattle.oc_neutral.specs.Invariants.{IsObject}
-use Rattle.oc_neutral.specs.Faces.{contents_of, shown_sections, shown_symbols, frame_of}
-use Rattle.oc_neutral.specs.Dialects.{Dialect}
-use Rattle.oc_shows.specs.Shows.{AreNumbered, Shows}
-use Rattle.oc_shows.specs.Built.{RelocMap, IsFree, IsGiven}
+use Rattle.oc_neutral.specs.{declared.section.Section.{Section}, declared.reloc.Reloc.{Reloc}, Objects.{Object, reloc_at}, Invariants.{IsObject}}
+use Rattle.oc_neutral.specs.{Faces.{contents_of, shown_sections, shown_symbols, frame_of}, Dialects.{Dialect}}
+use Rattle.oc_shows.specs.{Shows.{AreNumbered, Shows}, Built.{RelocMap, IsFree, IsGiven}}
 
 -- byte i of section s is in the field of one that is given
 pub record IsCovered (given : RelocMap) (s i : ℕ) : Type 0 where

@@ -1,25 +1,12 @@
 -- What a reader builds of a file (our profile): first its sections and symbols, and then a relocation for each field, in any order.
-use Rattle.std.specs.Prelude.{◌≡◌, ℕ, ◌+◌, ◌<◌, ◌≤◌, ◌⊎◌, nat_eq, true, ◌&&◌, if◌then◌else◌, List, [], ◌∷◌, Option, Some, None, Ok}
-use Rattle.std.specs.Option.{option_map_or}
+use Rattle.std.specs.{Prelude.{◌≡◌, ℕ, ◌+◌, ◌<◌, ◌≤◌, ◌⊎◌, nat_eq, true, ◌&&◌, if◌then◌else◌, List, [], ◌∷◌, Option, Some, None, Ok}, Option.{option_map_or}}
 use Rattle.oc_base.specs.Formats.{word_for}
-use Rattle.oc_linking.specs.declared.terms.Keep.{Keep}
-use Rattle.oc_linking.specs.Fits.{bytes_of, fits}
-use Rattle.oc_linking.specs.Placing.{Placement, zeros}
-use Rattle.oc_linking.specs.Values.{Valuation}
-use Rattle.oc_linking.specs.Rules.{Field, Named, Sectional}
+use Rattle.oc_linking.specs.{declared.terms.Keep.{Keep}, Fits.{bytes_of, fits}, Placing.{Placement, zeros}, Values.{Valuation}, Rules.{Field, Named, Sectional}}
 use Rattle.oc_chains.specs.Lists.{list_of}
-use Rattle.oc_neutral.specs.declared.symbol.Symbol.{Symbol}
-use Rattle.oc_neutral.specs.declared.reloc.Reloc.{Reloc}
-use Rattle.oc_neutral.specs.declared.reloc.Target.{Target}
-use Rattle.oc_neutral.specs.Objects.{Object}
-use Rattle.oc_neutral.specs.Normal.{Place, place_among}
-use Rattle.oc_neutral.specs.Building.{Draft, reloc_added}
-use Rattle.oc_neutral.specs.Invariants.{CanAdd, IsDraft}
-use Rattle.oc_neutral.specs.Faces.{named_of, shown_sections, shown_symbols}
-use Rattle.oc_neutral.specs.Worth.{residue_at}
-use Rattle.oc_neutral.specs.Dialects.{Dialect, is_difference, kept_fields}
-use Rattle.oc_shows.specs.Computed.{zero_values}
-use Rattle.oc_shows.specs.Shows.{AreNumbered, IsTrueToFixed, Shows}
+use Rattle.oc_neutral.specs.{declared.symbol.Symbol.{Symbol}, declared.reloc.Reloc.{Reloc}, declared.reloc.Target.{Target}, Objects.{Object}}
+use Rattle.oc_neutral.specs.{Normal.{Place, place_among}, Building.{Draft, reloc_added}, Invariants.{CanAdd, IsDraft}}
+use Rattle.oc_neutral.specs.{Faces.{named_of, shown_sections, shown_symbols}, Worth.{residue_at}, Dialects.{Dialect, is_difference, kept_fields}}
+use Rattle.oc_shows.specs.{Computed.{zero_values}, Shows.{AreNumbered, IsTrueToFixed, Shows}}
 
 -- a relocation that is added at an offset of a section, as the file has it
 pub record AddedReloc : Type 0 where

@@ -1,15 +1,9 @@
 -- When a Builder that was given the relocations of a file can finish (our profile).
 use Rattle.std.specs.Prelude.{◌≡◌, ℕ, true, List, slice_get, Some, None}
 use Rattle.oc_linking.specs.declared.terms.Keep.{Keep}
-use Rattle.oc_neutral.specs.declared.section.Section.{Section}
-use Rattle.oc_neutral.specs.declared.reloc.Reloc.{Reloc}
-use Rattle.oc_neutral.specs.Building.{Draft}
-use Rattle.oc_shows.specs.Built.{RelocMap, HasAdded, IsStarted}
-use Rattle.oc_neutral.specs.Dialects.{Dialect}
-use Rattle.oc_neutral.specs.GivenTags.{is_blank_type}
-use Rattle.oc_neutral.specs.Invariants.{IsComplete, IsHinted, NamesOriginal}
-use Rattle.oc_neutral.specs.Objects.{Object}
-use Rattle.oc_shows.specs.Readable.{IsReadable}
+use Rattle.oc_neutral.specs.{declared.section.Section.{Section}, declared.reloc.Reloc.{Reloc}, Building.{Draft}, Dialects.{Dialect}, GivenTags.{is_blank_type}}
+use Rattle.oc_neutral.specs.{Invariants.{IsComplete, IsHinted, NamesOriginal}, Objects.{Object}}
+use Rattle.oc_shows.specs.{Built.{RelocMap, HasAdded, IsStarted}, Readable.{IsReadable}}
 
 -- what is given has hints where it can, and names no aliases
 pub record AreFinal (n : Object) (given : RelocMap) : Type 0 where

@@ -1,21 +1,12 @@
 -- Laws of neutral objects (our profile).
 use Rattle.std.specs.Prelude.{◌≡◌, ℕ, List}
 use Rattle.oc_base.specs.declared.format.Word.{Word}
-use Rattle.oc_linking.specs.declared.terms.Keep.{Keep}
-use Rattle.oc_linking.specs.Placing.{Placement}
-use Rattle.oc_linking.specs.Values.{Valuation}
+use Rattle.oc_linking.specs.{declared.terms.Keep.{Keep}, Placing.{Placement}, Values.{Valuation}}
 use Rattle.oc_algebra.specs.Residues.{residue_of}
-use Rattle.oc_neutral.specs.declared.symbol.Symbol.{Symbol}
-use Rattle.oc_neutral.specs.declared.reloc.Reloc.{Reloc}
-use Rattle.oc_neutral.specs.declared.normal.Normal.{Normal}
+use Rattle.oc_neutral.specs.{declared.symbol.Symbol.{Symbol}, declared.reloc.Reloc.{Reloc}, declared.normal.Normal.{Normal}, Objects.{Object}}
+use Rattle.oc_neutral.specs.{Invariants.{IsObject}, Dialects.{Dialect}, Normal.{normal_of}, Worth.{residue_at, IsTrueToLocals}}
 use Rattle.oc_neutral.specs.declared.normal.Normal.TheVariants as normal
-use Rattle.oc_neutral.specs.Objects.{Object}
-use Rattle.oc_neutral.specs.Invariants.{IsObject}
-use Rattle.oc_neutral.specs.Dialects.{Dialect}
-use Rattle.oc_shows.specs.Shows.{Shows}
-use Rattle.oc_shows.specs.Computed.{object_in}
-use Rattle.oc_neutral.specs.Normal.{normal_of}
-use Rattle.oc_neutral.specs.Worth.{residue_at, IsTrueToLocals}
+use Rattle.oc_shows.specs.{Shows.{Shows}, Computed.{object_in}}
 
 -- what remains of a relocation at an offset of section s has its value, at every placement and every valuation that is true to the Locals
 abbrev pub KeepsValue : Word → List Symbol → ℕ → ℕ → Reloc → Normal → Type 0

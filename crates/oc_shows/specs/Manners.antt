@@ -1,28 +1,14 @@
 -- What each family of formats records of an object that was written, and what it leaves out (gABI, "Symbol Table"; PE/COFF, "COFF Symbol Table";
 -- Mach-O reference, "nlist"; TIS OMF 1.1, "FIXUPP"; our profile).
-use Rattle.std.specs.Prelude.{ℕ, ◌+◌, Bool, true, false, if◌then◌else◌, List, length}
-use Rattle.std.specs.Option.{unwrap_or}
-use Rattle.oc_base.specs.declared.format.Word.{Word}
-use Rattle.oc_base.specs.declared.format.Word.TheVariants.{W32, W64}
-use Rattle.oc_base.specs.Formats.{word_for}
-use Rattle.oc_linking.specs.declared.terms.Kind.{Kind}
-use Rattle.oc_linking.specs.declared.terms.Hint.{Hint}
-use Rattle.oc_linking.specs.declared.terms.Hint.TheVariants.{Plain}
-use Rattle.oc_linking.specs.declared.terms.Less.{Less}
+use Rattle.std.specs.{Prelude.{ℕ, ◌+◌, Bool, true, false, if◌then◌else◌, List, length}, Option.{unwrap_or}}
+use Rattle.oc_base.specs.{declared.format.Word.{Word}, declared.format.Word.TheVariants.{W32, W64}, Formats.{word_for}}
+use Rattle.oc_linking.specs.{declared.terms.Kind.{Kind}, declared.terms.Hint.{Hint}, declared.terms.Hint.TheVariants.{Plain}, declared.terms.Less.{Less}}
+use Rattle.oc_linking.specs.{declared.terms.Mark.{Mark}, declared.terms.Mark.TheVariants.{NoType, Function, Object as ObjectMark}}
+use Rattle.oc_linking.specs.{declared.terms.Visibility.{Visibility}, declared.terms.Visibility.TheVariants.{Default, Internal, Hidden, Protected}}
+use Rattle.oc_linking.specs.{declared.terms.Binding.{Binding}, declared.terms.Binding.TheVariants.{Local, Global, Undefined, Common, Weak}}
 use Rattle.oc_linking.specs.declared.terms.Less.TheVariants as less
-use Rattle.oc_linking.specs.declared.terms.Mark.{Mark}
-use Rattle.oc_linking.specs.declared.terms.Mark.TheVariants.{NoType, Function, Object as ObjectMark}
-use Rattle.oc_linking.specs.declared.terms.Visibility.{Visibility}
-use Rattle.oc_linking.specs.declared.terms.Visibility.TheVariants.{Default, Internal, Hidden, Protected}
-use Rattle.oc_linking.specs.declared.terms.Binding.{Binding}
-use Rattle.oc_linking.specs.declared.terms.Binding.TheVariants.{Local, Global, Undefined, Common, Weak}
-use Rattle.oc_neutral.specs.declared.section.Section.{Section}
-use Rattle.oc_neutral.specs.Objects.{Object}
-use Rattle.oc_neutral.specs.Family.{Container, IsElf, IsCoff, IsMach, IsOmf}
-use Rattle.oc_neutral.specs.Families.{container_of}
-use Rattle.oc_neutral.specs.Dressing.{is_common}
-use Rattle.oc_neutral.specs.Elf.Kinds.{elf_kind, elf_tag_type, elf_tag_flags}
-use Rattle.oc_neutral.specs.Coff.Kinds.{coff_kind}
+use Rattle.oc_neutral.specs.{declared.section.Section.{Section}, Objects.{Object}, Family.{Container, IsElf, IsCoff, IsMach, IsOmf}, Families.{container_of}}
+use Rattle.oc_neutral.specs.{Dressing.{is_common}, Elf.Kinds.{elf_kind, elf_tag_type, elf_tag_flags}, Coff.Kinds.{coff_kind}}
 use Rattle.oc_neutral.specs.Mach.Kinds.{segment_of, section_of, mach_kind}
 use Rattle.oc_shows.specs.SymbolLines.{Line, is_defined, elf_lines, coff_lines, mach_lines, omf_lines}
 

@@ -1,19 +1,11 @@
 -- An object whose symbols come in another order looks alike (our profile). It may have other Locals and other numbers, and its relocations may have
 -- other targets, as long as they have the same values.
-use Rattle.std.specs.Prelude.{◌≡◌, ℕ, false, map, slice_get, Some}
-use Rattle.std.specs.Option.{option_map}
+use Rattle.std.specs.{Prelude.{◌≡◌, ℕ, false, map, slice_get, Some}, Option.{option_map}}
 use Rattle.oc_base.specs.Formats.{word_for}
-use Rattle.oc_linking.specs.Faithful.{sort_of, shape_of}
-use Rattle.oc_linking.specs.Linking.{export_of}
-use Rattle.oc_linking.specs.Parts.{is_local}
-use Rattle.oc_linking.specs.Placing.{Placement, Outside, DiscardsGroups}
+use Rattle.oc_linking.specs.{Faithful.{sort_of, shape_of}, Linking.{export_of}, Parts.{is_local}, Placing.{Placement, Outside, DiscardsGroups}}
 use Rattle.oc_linking.specs.Values.{values, value_of}
-use Rattle.oc_neutral.specs.declared.symbol.Symbol.{Symbol}
-use Rattle.oc_neutral.specs.declared.reloc.Reloc.{Reloc}
-use Rattle.oc_neutral.specs.Objects.{Object, reloc_at}
-use Rattle.oc_neutral.specs.Invariants.{AreDistinct}
-use Rattle.oc_neutral.specs.Faces.{contents_of, shown_binding, shown_sections, shown_symbol, shown_symbols}
-use Rattle.oc_neutral.specs.Worth.{residue_at}
+use Rattle.oc_neutral.specs.{declared.symbol.Symbol.{Symbol}, declared.reloc.Reloc.{Reloc}, Objects.{Object, reloc_at}, Invariants.{AreDistinct}}
+use Rattle.oc_neutral.specs.{Faces.{contents_of, shown_binding, shown_sections, shown_symbol, shown_symbols}, Worth.{residue_at}}
 use Rattle.oc_shows.specs.Written.{LooksAlike}
 
 -- two symbols are alike for linking: they are the same thing, have the same value, and export the same wherever groups are discarded

@@ -1,25 +1,13 @@
 -- The field that a row of a relocation table makes of an entry, and the relocation that is that field (our profile).
 use Rattle.std.specs.Prelude.{◌≡◌, ℕ, ℤ, List}
-use Rattle.oc_base.specs.declared.format.Word.{Word}
-use Rattle.oc_base.specs.Numbers.{number_at}
-use Rattle.oc_linking.specs.declared.terms.Keep.{Keep}
-use Rattle.oc_linking.specs.Fits.{bytes_of}
-use Rattle.oc_linking.specs.Placing.{Placement}
-use Rattle.oc_linking.specs.Values.{Valuation, place_site}
-use Rattle.oc_linking.specs.Rules.{Field, Sectional}
+use Rattle.oc_base.specs.{declared.format.Word.{Word}, Numbers.{number_at}}
+use Rattle.oc_linking.specs.{declared.terms.Keep.{Keep}, Fits.{bytes_of}, Placing.{Placement}, Values.{Valuation, place_site}, Rules.{Field, Sectional}}
 use Rattle.oc_linking.specs.Targets as file
 use Rattle.oc_algebra.specs.Fields.{extended}
-use Rattle.oc_neutral.specs.declared.reloc.Target.{Target}
+use Rattle.oc_neutral.specs.{declared.reloc.Target.{Target}, Objects.{Object}, Normal.{moved_addend}, Rows.{Row}, Worth.{target_worth}, Dialects.{Dialect}}
 use Rattle.oc_neutral.specs.declared.reloc.Target.TheVariants as target
-use Rattle.oc_neutral.specs.Objects.{Object}
-use Rattle.oc_neutral.specs.Normal.{moved_addend}
 use Rattle.oc_neutral.specs.Rows as rows
-use Rattle.oc_neutral.specs.Rows.{Row}
-use Rattle.oc_shows.specs.RowValues.{row_value, row_reloc}
-use Rattle.oc_neutral.specs.Worth.{target_worth}
-use Rattle.oc_neutral.specs.Dialects.{Dialect}
-use Rattle.oc_shows.specs.Shows.{IsTrueToFixed}
-use Rattle.oc_shows.specs.Built.{IsField, named_in}
+use Rattle.oc_shows.specs.{RowValues.{row_value, row_reloc}, Shows.{IsTrueToFixed}, Built.{IsField, named_in}}
 
 -- the field of an entry at an offset of section s: its row, the section k that it takes, the number a that is added, and its target
 abbrev pub row_field : Word → Row → ℕ → ℤ → ℕ → ℕ → file.Target → Field

@@ -1,25 +1,16 @@
 -- What a reader of a format shows of a fitted object that was written (our profile): what the format does not say is not there, and symbols have
 -- the order and the numbers of the file.
 use Rattle.std.specs.Prelude.{ℕ, ◌+◌, false, nat_eq, if◌then◌else◌, List, [], ◌∷◌, map, filter_map, slice_get, Option, Some, None}
-use Rattle.std.specs.List.{enumerate_from, position_or_len}
-use Rattle.std.specs.Option.{option_map, option_map_or, option_and_then}
+use Rattle.std.specs.{List.{enumerate_from, position_or_len}, Option.{option_map, option_map_or, option_and_then}}
 use Rattle.oc_base.specs.Formats.{word_for}
-use Rattle.oc_linking.specs.declared.terms.Fallback.{Fallback}
-use Rattle.oc_linking.specs.declared.terms.Fallback.TheVariants as fallback
-use Rattle.oc_linking.specs.declared.terms.Less.{Less}
-use Rattle.oc_linking.specs.declared.terms.Binding.{Binding}
+use Rattle.oc_linking.specs.{declared.terms.Fallback.{Fallback}, declared.terms.Less.{Less}, declared.terms.Binding.{Binding}}
 use Rattle.oc_linking.specs.declared.terms.Binding.TheVariants.{Local, Global, Undefined, Common, Weak}
+use Rattle.oc_linking.specs.declared.terms.Fallback.TheVariants as fallback
 use Rattle.oc_chains.specs.declared.field.Field.{Field}
-use Rattle.oc_neutral.specs.declared.section.Section.{Section}
-use Rattle.oc_neutral.specs.declared.symbol.Symbol.{Symbol}
-use Rattle.oc_neutral.specs.declared.reloc.Target.{Target}
+use Rattle.oc_neutral.specs.{declared.section.Section.{Section}, declared.symbol.Symbol.{Symbol}, declared.reloc.Target.{Target}, declared.reloc.Reloc.{Reloc}}
+use Rattle.oc_neutral.specs.{Objects.{Object}, Normal.{Place, at_section, takes_section}, KeySymbols.{global_place}}
 use Rattle.oc_neutral.specs.declared.reloc.Target.TheVariants as target
-use Rattle.oc_neutral.specs.declared.reloc.Reloc.{Reloc}
-use Rattle.oc_neutral.specs.Objects.{Object}
-use Rattle.oc_neutral.specs.Normal.{Place, at_section, takes_section}
-use Rattle.oc_neutral.specs.KeySymbols.{global_place}
-use Rattle.oc_shows.specs.SymbolLines.{Line}
-use Rattle.oc_shows.specs.Manners.{Manner, own_manner}
+use Rattle.oc_shows.specs.{SymbolLines.{Line}, Manners.{Manner, own_manner}}
 
 -- the symbols that lines show, by position, each with the number of its first entry; the first line has the number that is given
 abbrev pub shown_from : ℕ → List Line → List (ℕ × ℕ)

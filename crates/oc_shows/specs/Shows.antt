@@ -1,17 +1,10 @@
 -- When a neutral object shows a file (our profile).
-use Rattle.std.specs.Prelude.{◌≡◌, ℕ, ◌<◌, true, false, List, [], map, slice_get, Option, Some}
-use Rattle.std.specs.Option.{option_map}
+use Rattle.std.specs.{Prelude.{◌≡◌, ℕ, ◌<◌, true, false, List, [], map, slice_get, Option, Some}, Option.{option_map}}
 use Rattle.oc_base.specs.declared.format.Word.{Word}
-use Rattle.oc_linking.specs.declared.terms.Keep.{Keep}
-use Rattle.oc_linking.specs.declared.terms.Patch.{Patch}
+use Rattle.oc_linking.specs.{declared.terms.Keep.{Keep}, declared.terms.Patch.{Patch}, Placing.{Placement}, Values.{Valuation, TrueToPinned}}
+use Rattle.oc_linking.specs.{Images.{Patches, overlays, overflows}, Linking.{patch_of}, Shows.{Apart, lives, unders}}
 use Rattle.oc_linking.specs.Parts as parts
-use Rattle.oc_linking.specs.Placing.{Placement}
-use Rattle.oc_linking.specs.Values.{Valuation, TrueToPinned}
-use Rattle.oc_linking.specs.Images.{Patches, overlays, overflows}
-use Rattle.oc_linking.specs.Linking.{patch_of}
-use Rattle.oc_linking.specs.Shows.{Apart, lives, unders}
-use Rattle.oc_neutral.specs.declared.reloc.Reloc.{Reloc}
-use Rattle.oc_neutral.specs.Objects.{Object, reloc_at}
+use Rattle.oc_neutral.specs.{declared.reloc.Reloc.{Reloc}, Objects.{Object, reloc_at}}
 use Rattle.oc_neutral.specs.Faces.{shown_sections, shown_symbols, contents_of, named_of, fields_of, frame_of}
 use Rattle.oc_neutral.specs.Dialects.{Dialect, Look, is_folded, looks_in, patches_in}
 

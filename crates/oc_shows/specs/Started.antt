@@ -1,24 +1,14 @@
 -- What a Builder holds that has the sections and symbols of a file, before any relocation (our profile).
-use Rattle.std.specs.Prelude.{◌≡◌, ℕ, true, bytes_eq, if◌then◌else◌, List, [], map, replicate, slice_get, Some}
-use Rattle.std.specs.List.{position_or_len}
+use Rattle.std.specs.{Prelude.{◌≡◌, ℕ, true, bytes_eq, if◌then◌else◌, List, [], map, replicate, slice_get, Some}, List.{position_or_len}}
 use Rattle.std.specs.Option.{is_some, option_map}
-use Rattle.oc_base.specs.declared.format.Format.{Format}
-use Rattle.oc_base.specs.Formats.{word_for}
-use Rattle.oc_linking.specs.declared.terms.Keep.{Keep}
+use Rattle.oc_base.specs.{declared.format.Format.{Format}, Formats.{word_for}}
+use Rattle.oc_linking.specs.{declared.terms.Keep.{Keep}, declared.terms.Binding.TheVariants.{Weak}, Values.{numbered}}
 use Rattle.oc_linking.specs.declared.terms.Fallback.TheVariants as fallback
-use Rattle.oc_linking.specs.declared.terms.Binding.TheVariants.{Weak}
 use Rattle.oc_linking.specs.Parts as parts
-use Rattle.oc_linking.specs.Values.{numbered}
 use Rattle.oc_chains.specs.Lists.{Lists}
-use Rattle.oc_neutral.specs.declared.group.Group.{Group}
-use Rattle.oc_neutral.specs.declared.section.Section.{Section}
-use Rattle.oc_neutral.specs.declared.symbol.Symbol.{Symbol}
-use Rattle.oc_neutral.specs.Building.{Draft, is_zero}
-use Rattle.oc_shows.specs.Built.{IsStarted}
-use Rattle.oc_shows.specs.Computed.{keys_in, computed_symbol}
-use Rattle.oc_neutral.specs.Dialects.{Dialect}
-use Rattle.oc_neutral.specs.Invariants.{IsDraft}
-use Rattle.oc_shows.specs.Shows.{AreNumbered}
+use Rattle.oc_neutral.specs.{declared.group.Group.{Group}, declared.section.Section.{Section}, declared.symbol.Symbol.{Symbol}, Building.{Draft, is_zero}}
+use Rattle.oc_neutral.specs.{Dialects.{Dialect}, Invariants.{IsDraft}}
+use Rattle.oc_shows.specs.{Built.{IsStarted}, Computed.{keys_in, computed_symbol}, Shows.{AreNumbered}}
 
 -- a list without fields for each section
 abbrev pub fieldless : {T : Type 0} → List Section → Lists T

@@ -1,16 +1,10 @@
 -- What a written file has of its object (our profile).
 use Rattle.std.specs.Prelude.{◌≡◌, ℕ, List, map, None}
 use Rattle.oc_base.specs.Formats.{word_for}
-use Rattle.oc_linking.specs.Placing.{Placement, Outside, DiscardsGroups}
-use Rattle.oc_linking.specs.Faithful.{names_of, shape_of}
-use Rattle.oc_linking.specs.Keeping.{all}
-use Rattle.oc_linking.specs.Linking.{exports}
+use Rattle.oc_linking.specs.{Placing.{Placement, Outside, DiscardsGroups}, Faithful.{names_of, shape_of}, Keeping.{all}, Linking.{exports}}
 use Rattle.oc_linking.specs.Shows as linking
-use Rattle.oc_neutral.specs.Objects.{Object}
-use Rattle.oc_neutral.specs.Faces.{contents_of, linked_object, shown_sections, shown_symbols}
-use Rattle.oc_neutral.specs.Dialects.{Dialect}
-use Rattle.oc_shows.specs.Shows.{Shows}
-use Rattle.oc_shows.specs.Seen.{seen}
+use Rattle.oc_neutral.specs.{Objects.{Object}, Faces.{contents_of, linked_object, shown_sections, shown_symbols}, Dialects.{Dialect}}
+use Rattle.oc_shows.specs.{Shows.{Shows}, Seen.{seen}}
 
 -- linking sees the same of two objects wherever a linker may discard groups, though their symbols may come in another order and have other numbers
 pub record LooksAlike (m n : Object) : Type 0 where

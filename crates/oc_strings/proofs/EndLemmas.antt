@@ -1,9 +1,7 @@
 -- Names that are the tails of texts.
 use Rattle.std.proofs.Common.{◌≡◌, ℕ, ◌+◌, ◌-◌, ◌≤◌, true, List, [], ◌∷◌, ◌++◌, length, take, drop, refl, sym, ◌∙◌, ap, arith, append_assoc, length-append}
 use Rattle.std.proofs.Math.Seq.{drop-append-add}
-use Rattle.std.proofs.lemmas.List.{append_cancel_right, take-append-drop}
-use Rattle.std.proofs.lemmas.Bool.Decides.{Decides-eqb}
-use Rattle.std.proofs.lemmas.Slice.Eq.{ends_is}
+use Rattle.std.proofs.lemmas.{List.{append_cancel_right, take-append-drop}, Bool.Decides.{Decides-eqb}, Slice.Eq.{ends_is}}
 use Rattle.std.specs.Cmp.{both_ways}
 use Rattle.oc_base.specs.Strings.{ends}
 use Rattle.oc_strings.specs.Order.{SharesEnd}

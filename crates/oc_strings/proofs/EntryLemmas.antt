@@ -4,26 +4,16 @@ use Rattle.std.proofs.lemmas.List.{get_or-map, length-map, get_or_default, get_o
 use Rattle.std.proofs.lemmas.List.Sorted.{All-permutation, Contains-permutation}
 use Rattle.std.proofs.lemmas.Map.Keys.{IsDistinct-from_apart, IsDistinct-IsPermutation, apart_from_distinct}
 use Rattle.std.proofs.lemmas.Option.{slice_get-get_or, slice_get_within, get_or_from_slice_get}
-use Rattle.std.proofs.lemmas.Bool.{both_ways, cases_eq, cases_lt, cases_order, eqb-false, false_from_ne_true}
-use Rattle.std.proofs.lemmas.Bool.Decides.{nat_tests}
-use Rattle.std.proofs.lemmas.Cmp.{nat_eq_equiv, nat_list_cmp_total, tied_itself}
-use Rattle.std.proofs.lemmas.Slice.Eq.{bytes_eq-Decides}
-use Rattle.std.specs.declared.cmp.Ordering.TheVariants.{Less, Equal, Greater}
-use Rattle.std.specs.Cmp.Lexicographic.{slice_cmp}
-use Rattle.std.specs.List.{All, IsDistinct, slice_get}
-use Rattle.std.specs.List.Sorted.{IsSortedBy, IsPermutation}
-use Rattle.std.specs.Ordering.{is_lt, nat_cmp, ordering_then}
+use Rattle.std.proofs.lemmas.{Bool.{both_ways, cases_eq, cases_lt, cases_order, eqb-false, false_from_ne_true}, Bool.Decides.{nat_tests}}
+use Rattle.std.proofs.lemmas.{Cmp.{nat_eq_equiv, nat_list_cmp_total, tied_itself}, Slice.Eq.{bytes_eq-Decides}}
+use Rattle.std.specs.{declared.cmp.Ordering.TheVariants.{Less, Equal, Greater}, Cmp.Lexicographic.{slice_cmp}, List.{All, IsDistinct, slice_get}}
+use Rattle.std.specs.{List.Sorted.{IsSortedBy, IsPermutation}, Ordering.{is_lt, nat_cmp, ordering_then}}
 use denote.Ref.{Bor}
 use Rattle.oc_base.specs.Strings.{ends}
-use Rattle.oc_strings.specs.declared.order.Entry.{Entry}
-use Rattle.oc_strings.specs.Tables.{texts}
-use Rattle.oc_strings.proofs.SliceLemmas.{text_at}
-use Rattle.oc_strings.specs.Inside.{IsSearchable, pick}
-use Rattle.oc_strings.specs.Keys.{back_number, entry_order, full_order, IsKeyed}
-use Rattle.oc_strings.proofs.EndLemmas.{ends_self, ends_whole}
-use Rattle.oc_strings.proofs.OrderLemmas.{same_or_before, tail_back, tail_between}
-use Rattle.oc_strings.proofs.KeyLemmas.{entry_order_is}
+use Rattle.oc_strings.specs.{declared.order.Entry.{Entry}, Tables.{texts}, Inside.{IsSearchable, pick}, Keys.{back_number, entry_order, full_order, IsKeyed}}
 use Rattle.oc_strings.specs.Order.{is_before, is_repeat, Ascends, StrictlyAscends, AreApart, AreSooner, IsNextTail, name_at, names_of, number_at, IsNumbered, IsOrder}
+use Rattle.oc_strings.proofs.{SliceLemmas.{text_at}, EndLemmas.{ends_self, ends_whole}, OrderLemmas.{same_or_before, tail_back, tail_between}}
+use Rattle.oc_strings.proofs.KeyLemmas.{entry_order_is}
 
 pub name_of_entry : (entries : List Entry) (k : ℕ) (d : List ℕ) (e : Entry) → k < length entries → get_or (names_of entries) k d ≡ (get_or entries k e).name.now
 name_of_entry entries k d e l = get_or-map (λ (x : Entry). x.name.now) entries k e d l

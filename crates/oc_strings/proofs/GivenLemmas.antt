@@ -1,10 +1,7 @@
 -- Names among given names, and the maximal ones.
 use Rattle.std.proofs.Common.{◌≡◌, ℕ, zero, suc, ◌<◌, Bool, true, false, not, ◌&&◌, ◌||◌, List, [], ◌∷◌, ◌++◌, length, get_or, refl, sym, ◌∙◌, ap, subst, arith, inl, inr, ◌⊎◌, ⊎_elim}
-use Rattle.std.proofs.lemmas.Bool.{and_from, lt-ltb, or_cases, or_left, or_right, both_ways, cases_lt, not-false}
-use Rattle.std.proofs.lemmas.Slice.Eq.{bytes_eq-Decides}
-use Rattle.std.specs.List.{list_any, fold}
-use Rattle.std.specs.Cmp.Lexicographic.{pointwise}
-use Rattle.std.specs.Prelude.{nat_eq, nat_lt, if◌then◌else◌}
+use Rattle.std.proofs.lemmas.{Bool.{and_from, lt-ltb, or_cases, or_left, or_right, both_ways, cases_lt, not-false}, Slice.Eq.{bytes_eq-Decides}}
+use Rattle.std.specs.{List.{list_any, fold}, Cmp.Lexicographic.{pointwise}, Prelude.{nat_eq, nat_lt, if◌then◌else◌}}
 use Rattle.oc_base.specs.Strings.{ends, is_proper_tail, is_maximal, is_given, with_top}
 use Rattle.oc_strings.proofs.EndLemmas.{ends_whole}
 

@@ -1,17 +1,10 @@
 -- The numbers of names' last bytes decide as the names do.
 use Rattle.std.proofs.Common.{◌≡◌, ℕ, zero, suc, ◌+◌, ◌-◌, ◌*◌, ◌^◌, ◌<◌, ◌≤◌, List, [], ◌∷◌, length, reverse, get_or, drop, Ordering, refl, sym, ◌∙◌, ap, arith, ⊎_elim}
-use Rattle.std.proofs.lemmas.List.{get_or-reverse, get_or-drop, get_or_past, length-drop, length-reverse}
-use Rattle.std.proofs.lemmas.Bool.{cases_lt, cases_order}
-use Rattle.std.proofs.lemmas.Cmp.{back_total, nat_cmp_total, nat_list_cmp_total, on_total, then_total}
-use Rattle.std.proofs.lemmas.Nat.{le_bytes_8}
-use Rattle.std.specs.Cmp.{IsTotalOrder, nat_cmp_is}
-use Rattle.std.specs.Int.{w64, from_le_bytes, to_le_bytes}
-use Rattle.std.specs.Ordering.{nat_cmp, ordering_then}
-use Rattle.std.specs.Cmp.Lexicographic.{slice_cmp}
+use Rattle.std.proofs.lemmas.{List.{get_or-reverse, get_or-drop, get_or_past, length-drop, length-reverse}, Bool.{cases_lt, cases_order}}
+use Rattle.std.proofs.lemmas.{Cmp.{back_total, nat_cmp_total, nat_list_cmp_total, on_total, then_total}, Nat.{le_bytes_8}}
+use Rattle.std.specs.{Cmp.{IsTotalOrder, nat_cmp_is}, Int.{w64, from_le_bytes, to_le_bytes}, Ordering.{nat_cmp, ordering_then}, Cmp.Lexicographic.{slice_cmp}}
 use Rattle.std.specs.declared.cmp.Ordering.TheVariants.{Less, Equal, Greater}
-use Rattle.oc_strings.specs.declared.order.Entry.{Entry}
-use Rattle.oc_strings.specs.Keys.{back_number, entry_order, full_order, IsKeyed}
-use Rattle.oc_strings.specs.Order.{SharesEnd}
+use Rattle.oc_strings.specs.{declared.order.Entry.{Entry}, Keys.{back_number, entry_order, full_order, IsKeyed}, Order.{SharesEnd}}
 
 -- each number of the list is a byte
 abbrev pub AreBytes : List ℕ → Type 0

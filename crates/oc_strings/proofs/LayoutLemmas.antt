@@ -1,22 +1,15 @@
 -- One given name after the other: which are tops, and where the texts stand.
 use Rattle.std.proofs.Common.{◌≡◌, ℕ, zero, suc, ◌+◌, ◌-◌, ◌<◌, ◌≤◌, Bool, true, false, not, ◌&&◌, List, [], ◌∷◌, ◌++◌, length, take, get_or, replicate, map, IsSome, Option, Some, None, refl, sym, ◌∙◌, ap, subst, arith, ⊎_elim, length-append}
 use Rattle.std.proofs.lemmas.List.{length-map, get_or-map, get_or_default, get_or-take, length-take-le, length-replicate, get_or-replicate, take_all, same_lists}
-use Rattle.std.proofs.lemmas.List.Sums.{fold_more}
-use Rattle.std.proofs.lemmas.List.Concat.{flat_map-append}
+use Rattle.std.proofs.lemmas.{List.Sums.{fold_more}, List.Concat.{flat_map-append}}
 use Rattle.std.proofs.lemmas.Bool.{both_ways, cases_lt, cases_Bool, and_parts, and_from, and_left, and_right, ltb-true, lt-ltb, cond-true, cond-false, false_from_ne_true}
-use Rattle.std.specs.List.{All, fold, list_any}
-use Rattle.std.specs.Option.{is_some, option_or, option_map}
-use Rattle.std.specs.Prelude.{nat_lt, if◌then◌else◌}
+use Rattle.std.specs.{List.{All, fold, list_any}, Option.{is_some, option_or, option_map}, Prelude.{nat_lt, if◌then◌else◌}}
 use Rattle.oc_base.specs.Strings.{ends, is_maximal, is_given, with_top, tops_of, text_of, place_from, table_place}
-use Rattle.oc_strings.specs.declared.order.Entry.{Entry}
-use Rattle.oc_strings.specs.declared.spots.Spot.{Spot}
-use Rattle.oc_strings.specs.Tables.{capped, offset_of}
+use Rattle.oc_strings.specs.{declared.order.Entry.{Entry}, declared.spots.Spot.{Spot}, Tables.{capped, offset_of}}
 use Rattle.oc_strings.specs.Order.{names_of, name_at, number_at, AreClosed, AreSpots, AreTailsPlaced, IsOrder, IsLaidOut, ends_next, place_in}
-use Rattle.oc_strings.proofs.EndLemmas.{ends_self, ends_whole}
-use Rattle.oc_strings.proofs.EntryLemmas.{count_of_names, named_at, number_within, rank_of}
+use Rattle.oc_strings.proofs.{EndLemmas.{ends_self, ends_whole}, EntryLemmas.{count_of_names, named_at, number_within, rank_of}}
 use Rattle.oc_strings.proofs.GivenLemmas.{given_at, place_of_given, not_maximal, longer_for, tops_given, tops_have}
-use Rattle.oc_strings.proofs.PlaceLaws.{has_place, place_from-append, given_place, placed_too}
-use Rattle.oc_strings.proofs.OrderLemmas.{tail_back, tail_between}
+use Rattle.oc_strings.proofs.{PlaceLaws.{has_place, place_from-append, given_place, placed_too}, OrderLemmas.{tail_back, tail_between}}
 
 module _ (names : List (List ℕ)) (entries : List Entry) (tails : List (Option ℕ)) (o : IsOrder names entries tails) where
   abbrev order : List (List ℕ)

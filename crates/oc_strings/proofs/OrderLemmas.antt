@@ -1,17 +1,12 @@
 -- Names in ascending order, and which of them end which.
 use Rattle.std.proofs.Common.{take, drop, ◌≡◌, ℕ, zero, suc, ◌+◌, ◌-◌, ◌<◌, ◌≤◌, true, false, List, [], ◌∷◌, ◌++◌, length, reverse, Ordering, refl, sym, ◌∙◌, ap, subst, arith, ⊎_elim}
-use Rattle.std.proofs.lemmas.List.{reverse-append, reverse-reverse, take-append-drop}
-use Rattle.std.proofs.lemmas.List.Sorted.{ranks_by, sorted_far}
-use Rattle.std.proofs.lemmas.Bool.{both_ways, cases_order}
-use Rattle.std.proofs.lemmas.Bool.Decides.{nat_tests}
-use Rattle.std.proofs.lemmas.Cmp.{nat_list_cmp_total, tied_itself, nat_cmp_total}
-use Rattle.std.specs.Ordering.{nat_cmp, is_lt, is_le, ordering_then, ordering_reverse}
-use Rattle.std.specs.Cmp.Lexicographic.{slice_cmp}
+use Rattle.std.proofs.lemmas.{List.{reverse-append, reverse-reverse, take-append-drop}, List.Sorted.{ranks_by, sorted_far}, Bool.{both_ways, cases_order}}
+use Rattle.std.proofs.lemmas.{Bool.Decides.{nat_tests}, Cmp.{nat_list_cmp_total, tied_itself, nat_cmp_total}}
+use Rattle.std.specs.{Ordering.{nat_cmp, is_lt, is_le, ordering_then, ordering_reverse}, Cmp.Lexicographic.{slice_cmp}}
 use Rattle.std.specs.declared.cmp.Ordering.TheVariants.{Less, Equal, Greater}
 use Rattle.oc_base.specs.Strings.{ends}
 use Rattle.oc_strings.specs.Order.{SharesEnd, is_before, Ascends, StrictlyAscends, name_at}
-use Rattle.oc_strings.proofs.EndLemmas.{ends_split, ends_from}
-use Rattle.oc_strings.proofs.KeyLemmas.{equal}
+use Rattle.oc_strings.proofs.{EndLemmas.{ends_split, ends_from}, KeyLemmas.{equal}}
 
 -- the order of lists of bytes
 abbrev pub order : List ℕ → List ℕ → Ordering

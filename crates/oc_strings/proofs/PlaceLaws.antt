@@ -1,15 +1,10 @@
 -- Where names stand in texts: the law of the string table.
 use Rattle.std.proofs.Common.{◌≡◌, ℕ, zero, suc, ◌+◌, ◌-◌, ◌<◌, ◌≤◌, Bool, true, false, not, ◌&&◌, ◌||◌, List, [], ◌∷◌, ◌++◌, length, get_or, Some, refl, sym, ◌∙◌, ap, arith, append_assoc, length-append, ⊎_elim}
-use Rattle.std.proofs.lemmas.Bool.{and_parts, ltb-true, cases_Bool}
-use Rattle.std.proofs.lemmas.List.Sums.{sum_by-cons, get_or-le-sum_by}
-use Rattle.std.proofs.lemmas.List.Concat.{flat_map-append}
+use Rattle.std.proofs.lemmas.{Bool.{and_parts, ltb-true, cases_Bool}, List.Sums.{sum_by-cons, get_or-le-sum_by}, List.Concat.{flat_map-append}}
 use Rattle.std.proofs.lemmas.Option.{same_Some}
-use Rattle.std.specs.List.{list_any, fold, sum_by}
-use Rattle.std.specs.Option.{is_some, option_or}
-use Rattle.std.specs.Prelude.{nat_lt, if◌then◌else◌}
+use Rattle.std.specs.{List.{list_any, fold, sum_by}, Option.{is_some, option_or}, Prelude.{nat_lt, if◌then◌else◌}}
 use Rattle.oc_base.specs.Strings.{ends, is_maximal, is_given, with_top, tops_of, text_of, place_from}
-use Rattle.oc_strings.proofs.EndLemmas.{ends_split, ends_self, ends_trans}
-use Rattle.oc_strings.proofs.GivenLemmas.{found, given_passes, place_of_given, tops_have, longer_for}
+use Rattle.oc_strings.proofs.{EndLemmas.{ends_split, ends_self, ends_trans}, GivenLemmas.{found, given_passes, place_of_given, tops_have, longer_for}}
 
 -- the name stands in the text behind a front of so many bytes, with a NUL behind it
 pub record Stands (name text : List ℕ) (at : ℕ) : Type 0 where

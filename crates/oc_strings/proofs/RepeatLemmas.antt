@@ -1,12 +1,9 @@
 -- The first repeat of a list of names, told by what repeats there are.
 use Rattle.std.proofs.Common.{◌≡◌, ℕ, ◌<◌, ◌≤◌, Bool, true, false, List, cond, Option, Some, None, slice_get, bytes_eq, length, inl, inr, refl, sym, ◌∙◌, ap, arith, subst}
 use Rattle.std.specs.Option.{option_and_then, option_map, option_map_or, option_flatten}
-use Rattle.std.proofs.lemmas.Bool.{cases_lt, cases_eq}
-use Rattle.std.proofs.lemmas.Option.{none-some, same_Some, slice_get_within}
-use Rattle.std.proofs.lemmas.Slice.Eq.{bytes_eq-Decides}
+use Rattle.std.proofs.lemmas.{Bool.{cases_lt, cases_eq}, Option.{none-some, same_Some, slice_get_within}, Slice.Eq.{bytes_eq-Decides}}
 use Rattle.oc_linking.proofs.FirstFaultLaws.{first_upto_none, first_upto_least}
-use Rattle.oc_strings.specs.declared.repeats.Repeat.{Repeat}
-use Rattle.oc_strings.specs.Repeats.{NameList, name_at, place_of, repeat_at, first_repeat}
+use Rattle.oc_strings.specs.{declared.repeats.Repeat.{Repeat}, Repeats.{NameList, name_at, place_of, repeat_at, first_repeat}}
 
 -- a name stands at both positions
 pub record IsRepeat (names : NameList) (r : Repeat) : Type 0 where

@@ -1,27 +1,17 @@
 -- Entries in order: those with the same name stand together.
 use Rattle.std.proofs.Common.{◌≡◌, ℕ, zero, suc, ◌+◌, ◌-◌, ◌<◌, ◌≤◌, Bool, true, false, cond, ◌&&◌, nat_eq, nat_le, nat_lt, bytes_eq, List, [], ◌++◌, length, get_or, Option, Some, None, inl, inr, ◌⊎◌, refl, sym, ◌∙◌, ap, arith, subst}
-use Rattle.std.specs.declared.cmp.Ordering.{Ordering}
-use Rattle.std.specs.declared.cmp.Ordering.TheVariants.{Less, Equal, Greater}
-use Rattle.std.specs.Cmp.{IsTotalOrder, tied_then}
-use Rattle.std.specs.Cmp.Lexicographic.{slice_cmp}
-use Rattle.std.specs.List.{All, Contains, IsDistinct}
-use Rattle.std.specs.List.Sorted.{IsPermutation, IsSorted}
+use Rattle.std.specs.{declared.cmp.Ordering.{Ordering}, declared.cmp.Ordering.TheVariants.{Less, Equal, Greater}, Cmp.{IsTotalOrder, tied_then}}
+use Rattle.std.specs.{Cmp.Lexicographic.{slice_cmp}, List.{All, Contains, IsDistinct}, List.Sorted.{IsPermutation, IsSorted}}
 use Rattle.std.specs.Option.{option_copied, option_flatten, option_map, option_to_list, unwrap_or}
 use Rattle.std.specs.Ordering.{is_eq, is_lt, nat_cmp, ordering_reverse, ordering_then}
-use Rattle.std.proofs.lemmas.Bool.{and_parts, both_ways, cases_eq, cases_lt}
-use Rattle.std.proofs.lemmas.Bool.Decides.{nat_tests}
+use Rattle.std.proofs.lemmas.{Bool.{and_parts, both_ways, cases_eq, cases_lt}, Bool.Decides.{nat_tests}}
 use Rattle.std.proofs.lemmas.Cmp.{nat_cmp_total, nat_eq_equiv, nat_list_cmp_total, on_equiv, on_total, then_total, tied_back}
-use Rattle.std.proofs.lemmas.List.{append-nil, get_or_default}
-use Rattle.std.proofs.lemmas.List.Elements.{All-nil, All-push, All-weaker, Contains-append_left, Contains-push}
-use Rattle.std.proofs.lemmas.List.Folds.{list_any_none}
-use Rattle.std.proofs.lemmas.List.Sorted.{All-permutation, Contains-permutation, ranks_by, sorted_far}
-use Rattle.std.proofs.lemmas.Map.Keys.{IsDistinct-IsPermutation, IsDistinct-push, apart_from_distinct, ge_from_not_lt}
-use Rattle.std.proofs.lemmas.Map.Text.{is_eq-slice_cmp}
-use Rattle.std.proofs.lemmas.Option.{none-some, same_Some, slice_get-get_or, slice_get-map}
+use Rattle.std.proofs.lemmas.{List.{append-nil, get_or_default}, List.Elements.{All-nil, All-push, All-weaker, Contains-append_left, Contains-push}}
+use Rattle.std.proofs.lemmas.{List.Folds.{list_any_none}, List.Sorted.{All-permutation, Contains-permutation, ranks_by, sorted_far}}
+use Rattle.std.proofs.lemmas.{Map.Keys.{IsDistinct-IsPermutation, IsDistinct-push, apart_from_distinct, ge_from_not_lt}, Map.Text.{is_eq-slice_cmp}}
+use Rattle.std.proofs.lemmas.{Option.{none-some, same_Some, slice_get-get_or, slice_get-map}, Slice.Eq.{bytes_eq-Decides}}
 use denote.Ref.{Bor}
-use Rattle.std.proofs.lemmas.Slice.Eq.{bytes_eq-Decides}
-use Rattle.oc_strings.specs.declared.repeats.SortKey.{SortKey}
-use Rattle.oc_strings.specs.declared.repeats.Repeat.{Repeat}
+use Rattle.oc_strings.specs.{declared.repeats.SortKey.{SortKey}, declared.repeats.Repeat.{Repeat}}
 use Rattle.oc_strings.specs.Repeats.{NameList, are_tied, bytes_at, entries_of, first_repeat, number_of, name_at, names_of, order, sooner}
 use Rattle.oc_strings.proofs.RepeatLemmas.{IsRepeat, named_within, no_repeat, repeat_first}
 

@@ -1,17 +1,11 @@
 -- The search among names in ascending order.
 use Rattle.std.proofs.Common.{◌≡◌, ℕ, ◌+◌, ◌<◌, ◌≤◌, true, false, List, [], length, reverse, get_or, Some, None, Ordering, sym, ◌∙◌, ap, subst, arith, ⊎_elim}
-use Rattle.std.proofs.lemmas.List.{get_or-map, length-map, reverse-reverse}
-use Rattle.std.proofs.lemmas.Bool.{both_ways, cases_lt, cond-false, false_from_ne_true}
+use Rattle.std.proofs.lemmas.{List.{get_or-map, length-map, reverse-reverse}, Bool.{both_ways, cases_lt, cond-false, false_from_ne_true}}
 use Rattle.std.proofs.lemmas.Cmp.{nat_list_cmp_total, tied_itself}
-use Rattle.std.specs.Ordering.{nat_cmp, is_lt, ordering_reverse}
-use Rattle.std.specs.Cmp.Lexicographic.{slice_cmp}
-use Rattle.std.specs.declared.cmp.Ordering.TheVariants.{Less, Equal, Greater}
+use Rattle.std.specs.{Ordering.{nat_cmp, is_lt, ordering_reverse}, Cmp.Lexicographic.{slice_cmp}, declared.cmp.Ordering.TheVariants.{Less, Equal, Greater}}
 use Rattle.oc_base.specs.Strings.{is_given, table_place, tops_of, place_from}
-use Rattle.oc_strings.specs.declared.table.NameSpan.{NameSpan}
-use Rattle.oc_strings.specs.Order.{is_before, name_at}
-use Rattle.oc_strings.specs.Inside.{name_in, names_in, pick, IsSearchable, IsTable}
-use Rattle.oc_strings.proofs.GivenLemmas.{place_of_given}
-use Rattle.oc_strings.proofs.OrderLemmas.{earlier, tied_same, less_from}
+use Rattle.oc_strings.specs.{declared.table.NameSpan.{NameSpan}, Order.{is_before, name_at}, Inside.{name_in, names_in, pick, IsSearchable, IsTable}}
+use Rattle.oc_strings.proofs.{GivenLemmas.{place_of_given}, OrderLemmas.{earlier, tied_same, less_from}}
 
 -- the name is none of those before low, nor of those from high on
 pub record IsNarrowed (names : List (List ℕ)) (order : List ℕ) (name : List ℕ) (low high : ℕ) : Type 0 where

@@ -1,7 +1,6 @@
 -- Names and tops that are held as slices.
 use Rattle.std.proofs.Common.{◌≡◌, ℕ, ◌+◌, ◌<◌, List, [], ◌∷◌, ◌++◌, length, get_or, take, sym, ◌∙◌, ap, append_assoc}
-use Rattle.std.proofs.lemmas.List.{get_or-map, map_more, append-nil}
-use Rattle.std.proofs.lemmas.List.Concat.{flat_map-append}
+use Rattle.std.proofs.lemmas.{List.{get_or-map, map_more, append-nil}, List.Concat.{flat_map-append}}
 use denote.Ref.{Bor}
 use Rattle.oc_base.specs.Strings.{text_of}
 use Rattle.oc_strings.specs.Tables.{texts}

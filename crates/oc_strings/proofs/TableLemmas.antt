@@ -1,20 +1,12 @@
 -- A table's parts are those of the given names, and what a place in it says.
 use Rattle.std.proofs.Common.{◌≡◌, ℕ, ◌+◌, ◌-◌, ◌^◌, ◌<◌, ◌≤◌, ◌↔◌, Bool, true, false, List, [], ◌∷◌, ◌++◌, length, take, drop, get_or, map, Option, Some, None, IsSome, refl, sym, ◌∙◌, ap, subst, arith, length-append, append_assoc}
-use Rattle.std.proofs.lemmas.List.{length-map, get_or-map, drop_at, take_at, get_or_at, get_or_default, same_lists}
-use Rattle.std.proofs.lemmas.List.Sums.{sum_by-cons}
-use Rattle.std.proofs.lemmas.Option.{same_Some, slice_get-get_or, none-some}
-use Rattle.std.proofs.lemmas.Bool.{both_ways, cond-true}
-use Rattle.std.specs.List.{Contains, slice_range, sum_by}
-use Rattle.std.specs.Option.{is_some, option_map, IfSome}
-use Rattle.std.specs.Prelude.{if◌then◌else◌}
+use Rattle.std.proofs.lemmas.{List.{length-map, get_or-map, drop_at, take_at, get_or_at, get_or_default, same_lists}, List.Sums.{sum_by-cons}}
+use Rattle.std.proofs.lemmas.{Option.{same_Some, slice_get-get_or, none-some}, Bool.{both_ways, cond-true}}
+use Rattle.std.specs.{List.{Contains, slice_range, sum_by}, Option.{is_some, option_map, IfSome}, Prelude.{if◌then◌else◌}}
 use Rattle.oc_base.specs.Strings.{is_given, tops_of, text_of, place_from, table_text, table_place}
-use Rattle.oc_strings.specs.declared.table.NameSpan.{NameSpan}
-use Rattle.oc_strings.specs.Tables.{StandsAt, capped, offset_of}
-use Rattle.oc_strings.specs.Order.{name_at}
-use Rattle.oc_strings.specs.Inside.{name_in, names_in, IsSearchable, IsTable}
-use Rattle.oc_strings.specs.Parts.{ArePlaces}
-use Rattle.oc_strings.proofs.GivenLemmas.{given_at, place_of_given}
-use Rattle.oc_strings.proofs.PlaceLaws.{stands, given_place, tops_short}
+use Rattle.oc_strings.specs.{declared.table.NameSpan.{NameSpan}, Tables.{StandsAt, capped, offset_of}, Order.{name_at}}
+use Rattle.oc_strings.specs.{Inside.{name_in, names_in, IsSearchable, IsTable}, Parts.{ArePlaces}}
+use Rattle.oc_strings.proofs.{GivenLemmas.{given_at, place_of_given}, PlaceLaws.{stands, given_place, tops_short}}
 
 -- a name with a place is given, and the place is that in the texts
 record Placed (head : ℕ) (names : List (List ℕ)) (name : List ℕ) (p : ℕ) : Type 0 where

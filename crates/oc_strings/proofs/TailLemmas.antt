@@ -2,13 +2,10 @@
 use Rattle.std.proofs.Common.{◌≡◌, ℕ, ◌+◌, ◌-◌, ◌<◌, ◌≤◌, true, false, List, length, get_or, set, Option, Some, None, refl, sym, ◌∙◌, ap, subst, arith, ⊎_elim}
 use Rattle.std.proofs.lemmas.List.{get_or-set_same, get_or-set_other, length-set}
 use Rattle.std.proofs.lemmas.Bool.{and_from, both_ways, cases_Bool, cases_lt, cases_order, false_from_ne_true, cond-false, cond-true, lt-ltb}
-use Rattle.std.specs.Option.{is_none, is_some, option_or}
-use Rattle.std.specs.Prelude.{nat_lt}
+use Rattle.std.specs.{Option.{is_none, is_some, option_or}, Prelude.{nat_lt}}
 use Rattle.oc_base.specs.Strings.{ends}
-use Rattle.oc_strings.specs.Tables.{capped}
-use Rattle.oc_strings.specs.Order.{Ascends, name_at, IsNextTail, ends_next, place_in}
-use Rattle.oc_strings.proofs.EndLemmas.{ends_self, ends_trans}
-use Rattle.oc_strings.proofs.OrderLemmas.{tail_back, tail_between}
+use Rattle.oc_strings.specs.{Tables.{capped}, Order.{Ascends, name_at, IsNextTail, ends_next, place_in}}
+use Rattle.oc_strings.proofs.{EndLemmas.{ends_self, ends_trans}, OrderLemmas.{tail_back, tail_between}}
 
 -- how many names the walk may still meet
 abbrev pub still : Option ℕ → ℕ

@@ -1,15 +1,11 @@
 -- The walk from a top to the names that end it, by their numbers.
 use Rattle.std.proofs.Common.{◌≡◌, ℕ, suc, ◌+◌, ◌-◌, ◌<◌, ◌≤◌, Bool, true, false, not, List, [], ◌∷◌, length, get_or, set, zero, Option, Some, None, refl, sym, ◌∙◌, ap, subst, arith, length-append}
-use Rattle.std.proofs.lemmas.Bool.{both_ways}
-use Rattle.std.proofs.lemmas.Option.{none-some, same_Some}
+use Rattle.std.proofs.lemmas.{Bool.{both_ways}, Option.{none-some, same_Some}}
 use Rattle.std.specs.Option.{is_none, is_some, option_map, option_or}
 use Rattle.oc_base.specs.Strings.{ends}
-use Rattle.oc_strings.specs.declared.order.Entry.{Entry}
-use Rattle.oc_strings.specs.declared.spots.Spot.{Spot}
-use Rattle.oc_strings.specs.Tables.{capped}
+use Rattle.oc_strings.specs.{declared.order.Entry.{Entry}, declared.spots.Spot.{Spot}, Tables.{capped}}
 use Rattle.oc_strings.specs.Order.{AreClosed, AreSpots, AreTailsPlaced, ends_next, name_at, names_of, number_at, place_in}
-use Rattle.oc_strings.proofs.EndLemmas.{ends_split}
-use Rattle.oc_strings.proofs.EntryLemmas.{count_of_names, named_at, number_within, one_rank, rank_of}
+use Rattle.oc_strings.proofs.{EndLemmas.{ends_split}, EntryLemmas.{count_of_names, named_at, number_within, one_rank, rank_of}}
 use Rattle.oc_strings.proofs.TailLemmas.{IsPlacing, placing_none, placing_more, placing_stop}
 
 -- how many names have no offset

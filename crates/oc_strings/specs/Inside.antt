@@ -1,8 +1,7 @@
 -- What the fields of a table keep.
 use Rattle.std.specs.Prelude.{◌≡◌, ℕ, ◌+◌, ◌-◌, ◌<◌, ◌≤◌, List, Some, length, map, slice_index, slice_index_or, slice_range}
 use Rattle.oc_base.specs.Strings.{table_text, table_place}
-use Rattle.oc_strings.specs.declared.table.NameSpan.{NameSpan}
-use Rattle.oc_strings.specs.Order.{name_at, StrictlyAscends}
+use Rattle.oc_strings.specs.{declared.table.NameSpan.{NameSpan}, Order.{name_at, StrictlyAscends}}
 
 -- the name that lies at a place of a table whose first text lies at `head`
 abbrev pub name_in : ℕ → List ℕ → NameSpan → List ℕ

@@ -1,9 +1,6 @@
 -- The numbers by which names are compared first.
-use Rattle.std.specs.Prelude.{◌≡◌, ℕ, ◌<◌, ◌^◌, List, [], ◌∷◌, reverse, slice_index}
-use Rattle.std.specs.Int.{w64, from_be_bytes}
-use Rattle.std.specs.Ordering.{nat_cmp, ordering_then}
-use Rattle.std.specs.declared.cmp.Ordering.{Ordering}
-use Rattle.std.specs.Cmp.Lexicographic.{slice_cmp}
+use Rattle.std.specs.{Prelude.{◌≡◌, ℕ, ◌<◌, ◌^◌, List, [], ◌∷◌, reverse, slice_index}, Int.{w64, from_be_bytes}, Ordering.{nat_cmp, ordering_then}}
+use Rattle.std.specs.{declared.cmp.Ordering.{Ordering}, Cmp.Lexicographic.{slice_cmp}}
 use Rattle.oc_strings.specs.declared.order.Entry.{Entry}
 
 -- byte i of a name, counted from the last one on; 0 where the name is shorter

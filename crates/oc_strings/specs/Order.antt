@@ -1,13 +1,8 @@
 -- The order of names by their bytes, read from the last one on: a name comes right before the names that it ends.
 use Rattle.std.specs.Prelude.{◌≡◌, ℕ, ◌+◌, ◌-◌, ◌<◌, ◌≤◌, Bool, ◌&&◌, not, nat_lt, is_some, if◌then◌else◌, true, false, bytes_eq, zero, suc, List, [], All, Option, Some, None, length, map, reverse, fold, take, drop, slice_get, slice_index, slice_index_or}
-use Rattle.std.specs.Ordering.{nat_cmp, is_lt}
-use Rattle.std.specs.Option.{option_map, option_or}
-use Rattle.std.specs.Cmp.Lexicographic.{slice_cmp}
+use Rattle.std.specs.{Ordering.{nat_cmp, is_lt}, Option.{option_map, option_or}, Cmp.Lexicographic.{slice_cmp}}
 use Rattle.oc_base.specs.Strings.{ends, with_top, place_from}
-use Rattle.oc_strings.specs.Keys.{IsKeyed}
-use Rattle.oc_strings.specs.Tables.{capped}
-use Rattle.oc_strings.specs.declared.order.Entry.{Entry}
-use Rattle.oc_strings.specs.declared.spots.Spot.{Spot}
+use Rattle.oc_strings.specs.{Keys.{IsKeyed}, Tables.{capped}, declared.order.Entry.{Entry}, declared.spots.Spot.{Spot}}
 
 -- the name comes before the other one
 abbrev pub is_before : List ℕ → List ℕ → Bool

@@ -1,7 +1,6 @@
 -- The parts of a table, before they are put together.
 use Rattle.std.specs.Prelude.{◌≡◌, ℕ, ◌<◌, List, length, slice_index, slice_index_or}
-use Rattle.oc_strings.specs.declared.table.NameSpan.{NameSpan}
-use Rattle.oc_strings.specs.Order.{name_at}
+use Rattle.oc_strings.specs.{declared.table.NameSpan.{NameSpan}, Order.{name_at}}
 
 -- the places have these offsets, and the lengths of the names
 pub record ArePlaces (names : List (List ℕ)) (offsets : List ℕ) (places : List NameSpan) : Type 0 where

@@ -1,17 +1,11 @@
 -- Names that occur twice in a list (our profile).
 use Rattle.std.specs.Prelude.{ℕ, zero, suc, Bool, false, ◌&&◌, nat_eq, nat_le, bytes_eq, if◌then◌else◌, List, [], ◌∷◌, ◌++◌, ◌+◌, ◌*◌, ◌/◌, ◌%◌, ◌^◌, drop, length, map, slice_get, Option, Some, None}
 use Rattle.std.specs.Option.{option_and_then, option_copied, option_flatten, option_map, option_map_or, option_to_list, unwrap_or}
-use Rattle.std.specs.declared.cmp.Ordering.{Ordering}
-use Rattle.std.specs.Ordering.{nat_cmp, ordering_then}
-use Rattle.std.specs.Cmp.Lexicographic.{slice_cmp}
+use Rattle.std.specs.{declared.cmp.Ordering.{Ordering}, Ordering.{nat_cmp, ordering_then}, Cmp.Lexicographic.{slice_cmp}}
 use denote.Ref.{Bor}
 use Rattle.oc_base.specs.Numbers.{number_at}
-use Rattle.oc_linking.specs.declared.terms.Binding.{Binding}
-use Rattle.oc_linking.specs.Numbers.{first_upto}
-use Rattle.oc_linking.specs.Parts.{is_local}
-use Rattle.oc_strings.specs.declared.repeats.Repeat.{Repeat}
-use Rattle.oc_strings.specs.declared.repeats.SortKey.{SortKey}
-use Rattle.oc_strings.specs.declared.repeats.TheConstants.{SPREAD}
+use Rattle.oc_linking.specs.{declared.terms.Binding.{Binding}, Numbers.{first_upto}, Parts.{is_local}}
+use Rattle.oc_strings.specs.{declared.repeats.Repeat.{Repeat}, declared.repeats.SortKey.{SortKey}, declared.repeats.TheConstants.{SPREAD}}
 
 -- names by position; a position may have none
 abbrev pub NameList : Type 0

@@ -1,6 +1,5 @@
 -- What callers see of a string table, and what a name in its bytes is (our profile's canonical ELF, COFF and Mach-O files).
-use Rattle.std.specs.Prelude.{◌≡◌, ℕ, ◌+◌, ◌-◌, ◌^◌, List, Option, Some, length, map, min, slice_get, slice_range}
-use Rattle.std.specs.Option.{option_map}
+use Rattle.std.specs.{Prelude.{◌≡◌, ℕ, ◌+◌, ◌-◌, ◌^◌, List, Option, Some, length, map, min, slice_get, slice_range}, Option.{option_map}}
 use denote.Ref.{Bor}
 use Rattle.oc_base.specs.Strings.{table_place}
 

@@ -1,20 +1,14 @@
 -- The alignments of a target are alignments, none is above its greatest, and each is its own.
 use Rattle.std.proofs.Common.{◌≡◌, ℕ, zero, suc, ◌+◌, ◌^◌, ◌<◌, ◌≤◌, inl, inr, Bool, true, false, cond, nat_le, Some, None, refl, ◌∙◌, ap, arith}
-use Rattle.std.specs.Prelude.{find}
-use Rattle.std.specs.Option.{unwrap_or}
+use Rattle.std.specs.{Prelude.{find}, Option.{unwrap_or}}
 use Rattle.std.proofs.Math.Pow.{pow_mono, pow-lt}
-use Rattle.std.proofs.lemmas.Bool.{cases_eq}
-use Rattle.std.proofs.lemmas.Bool.Decides.{nat_tests}
+use Rattle.std.proofs.lemmas.{Bool.{cases_eq}, Bool.Decides.{nat_tests}}
 use Rattle.oc_base.specs.declared.format.Format.{Format}
 use Rattle.oc_base.specs.declared.format.Format.TheVariants.{Elf32, Elf64, Coff32, Coff64, Mac32, Mac64, Omf, BigElf32, BigElf64, BigCoff32, BigCoff64}
-use Rattle.oc_linking.specs.Numbers.{first_from}
-use Rattle.oc_linking.specs.declared.terms.Binding.{Binding}
+use Rattle.oc_linking.specs.{Numbers.{first_from}, declared.terms.Binding.{Binding}}
 use Rattle.oc_linking.specs.declared.terms.Binding.TheVariants.{Local, Global, Undefined, Common, Weak}
-use Rattle.oc_neutral.specs.Alignments.{most_align, output_align, common_align}
+use Rattle.oc_neutral.specs.{Alignments.{most_align, output_align, common_align}, Invariants.{IsAlign}, Omf.Family.{omf_aligns}, Powers.{power_upto}}
 use Rattle.oc_target.specs.Fitted.{fitted_binding}
-use Rattle.oc_neutral.specs.Invariants.{IsAlign}
-use Rattle.oc_neutral.specs.Omf.Family.{omf_aligns}
-use Rattle.oc_neutral.specs.Powers.{power_upto}
 use Rattle.oc_neutral.specs.declared.coff.TheConstants as coff
 use Rattle.oc_neutral.specs.declared.elf.TheConstants as elf
 

@@ -1,42 +1,24 @@
 -- The object of a small file, and what small objects become in a target, computed; each expected value is worked by hand.
 use Rattle.std.proofs.Common.{◌≡◌, ℕ, ◌+◌, refl, List, [], ◌∷◌, Option, Some, None, false}
 use Rattle.std.specs.Prelude.{ℤ, pos, negsuc, nat_eq, ◌&&◌, ◌++◌, if◌then◌else◌, codes, replicate}
-use Rattle.oc_base.specs.declared.format.Format.{Format}
-use Rattle.oc_base.specs.declared.format.Format.TheVariants.{Elf64, Coff64, Mac64}
-use Rattle.oc_base.specs.declared.format.Word.TheVariants.{W64}
-use Rattle.oc_linking.specs.declared.terms.Width.{Width}
-use Rattle.oc_linking.specs.declared.terms.Width.TheVariants.{Four, Eight}
-use Rattle.oc_linking.specs.declared.terms.Check.TheVariants.{Wrap, Signed}
-use Rattle.oc_linking.specs.declared.terms.Hint.TheVariants.{Plain, Call}
-use Rattle.oc_linking.specs.declared.terms.Kind.{Kind}
-use Rattle.oc_linking.specs.declared.terms.Kind.TheVariants.{Code, Data, Zero}
-use Rattle.oc_linking.specs.declared.terms.Mark.TheVariants.{NoType}
-use Rattle.oc_linking.specs.declared.terms.Visibility.TheVariants.{Default}
+use Rattle.oc_base.specs.{declared.format.Format.{Format}, declared.format.Format.TheVariants.{Elf64, Coff64, Mac64}, declared.format.Word.TheVariants.{W64}}
+use Rattle.oc_linking.specs.{declared.terms.Width.{Width}, declared.terms.Width.TheVariants.{Four, Eight}, declared.terms.Check.TheVariants.{Wrap, Signed}}
+use Rattle.oc_linking.specs.{declared.terms.Hint.TheVariants.{Plain, Call}, declared.terms.Kind.{Kind}, declared.terms.Kind.TheVariants.{Code, Data, Zero}}
+use Rattle.oc_linking.specs.{declared.terms.Mark.TheVariants.{NoType}, declared.terms.Visibility.TheVariants.{Default}, declared.terms.Binding.{Binding}}
+use Rattle.oc_linking.specs.{declared.terms.Binding.TheVariants.{Local, Global, Common, Weak}, declared.terms.Less.{Less}, Numbers.{minus}, Keeping.{all}}
+use Rattle.oc_linking.specs.Rules.{Symbolic, Sectional, Field, Fields}
 use Rattle.oc_linking.specs.declared.terms.Value.TheVariants as value
 use Rattle.oc_linking.specs.declared.terms.Fallback.TheVariants as fallback
-use Rattle.oc_linking.specs.declared.terms.Binding.{Binding}
-use Rattle.oc_linking.specs.declared.terms.Binding.TheVariants.{Local, Global, Common, Weak}
 use Rattle.oc_linking.specs.declared.terms.Base.TheVariants as base
-use Rattle.oc_linking.specs.declared.terms.Less.{Less}
 use Rattle.oc_linking.specs.declared.terms.Less.TheVariants as less
-use Rattle.oc_linking.specs.Numbers.{minus}
-use Rattle.oc_linking.specs.Keeping.{all}
 use Rattle.oc_linking.specs.Parts as parts
-use Rattle.oc_linking.specs.Rules.{Symbolic, Sectional, Field, Fields}
-use Rattle.oc_chains.specs.Fields.{field}
-use Rattle.oc_chains.specs.Lists.{Lists}
+use Rattle.oc_chains.specs.{Fields.{field}, Lists.{Lists}}
 use Rattle.oc_algebra.specs.Residues.{residue_of}
-use Rattle.oc_neutral.specs.declared.section.Section.{Section}
-use Rattle.oc_neutral.specs.declared.symbol.Symbol.{Symbol}
-use Rattle.oc_neutral.specs.declared.reloc.Target.{Target}
+use Rattle.oc_neutral.specs.{declared.section.Section.{Section}, declared.symbol.Symbol.{Symbol}, declared.reloc.Target.{Target}, declared.reloc.Reloc.{Reloc}}
+use Rattle.oc_neutral.specs.{Objects.{Object}, Dialects.{Dialect, is_folded, looks_in, patches_in}, Alignments.{output_align, common_align}}
+use Rattle.oc_neutral.specs.{Relocated.{is_relocated}, HomeNames.{output_tag, wanted_names, output_names}}
 use Rattle.oc_neutral.specs.declared.reloc.Target.TheVariants as target
-use Rattle.oc_neutral.specs.declared.reloc.Reloc.{Reloc}
-use Rattle.oc_neutral.specs.Objects.{Object}
-use Rattle.oc_neutral.specs.Dialects.{Dialect, is_folded, looks_in, patches_in}
 use Rattle.oc_shows.specs.Computed.{object_in}
-use Rattle.oc_neutral.specs.Alignments.{output_align, common_align}
-use Rattle.oc_neutral.specs.Relocated.{is_relocated}
-use Rattle.oc_neutral.specs.HomeNames.{output_tag, wanted_names, output_names}
 use Rattle.oc_target.specs.Fitting.{fit_of}
 
 -- ... a file

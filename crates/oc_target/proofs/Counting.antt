@@ -1,8 +1,6 @@
 -- A count with one more.
 use Rattle.std.proofs.Common.{◌≡◌, refl, ℕ, ◌+◌, ◌≤◌, Bool, true, false, cond, List, Some, ◌∙◌, ap, arith}
-use Rattle.std.specs.Prelude.{slice_get, take}
-use Rattle.std.specs.Int.{from_bool}
-use Rattle.std.specs.List.{count_by, range_with_len}
+use Rattle.std.specs.{Prelude.{slice_get, take}, Int.{from_bool}, List.{count_by, range_with_len}}
 use Rattle.oc_target.proofs.Steps.{sum_more, count_more}
 
 -- one, where it holds

@@ -1,10 +1,8 @@
 -- What is told of the keys of all groups.
 use Rattle.std.proofs.Common.{◌≡◌, refl, ℕ, zero, suc, ◌+◌, false, List, [], ◌∷◌, ◌++◌, map, Some, ◌∙◌, ap, get_or}
-use Rattle.std.specs.Prelude.{slice_get, take}
-use Rattle.std.specs.Option.{option_map, option_map_or}
+use Rattle.std.specs.{Prelude.{slice_get, take}, Option.{option_map, option_map_or}}
 use Rattle.std.proofs.lemmas.List.{map-append}
-use Rattle.oc_neutral.specs.declared.group.Group.{Group}
-use Rattle.oc_neutral.specs.KindRules.{has_nul}
+use Rattle.oc_neutral.specs.{declared.group.Group.{Group}, KindRules.{has_nul}}
 use Rattle.oc_neutral.proofs.FieldLists.{take_here}
 
 -- one more key

@@ -1,25 +1,15 @@
 -- The steps in which sections are dressed, from the last on, and commons aligned.
 use Rattle.std.proofs.Common.{◌≡◌, ℕ, ◌+◌, ◌<◌, ◌≤◌, List, [], ◌∷◌, ◌++◌, length, map, set, take, get_or, Option, Some, slice_get, refl, sym, ◌∙◌, ap, subst, arith}
 use Rattle.std.specs.List.{enumerate_from}
-use Rattle.std.proofs.lemmas.List.{length-append, length-take-le, set-get_or}
-use Rattle.std.proofs.lemmas.Option.{get_or_from_slice_get, slice_get-get_or}
+use Rattle.std.proofs.lemmas.{List.{length-append, length-take-le, set-get_or}, Option.{get_or_from_slice_get, slice_get-get_or}}
 use Rattle.oc_base.specs.declared.format.Format.{Format}
-use Rattle.oc_linking.specs.declared.terms.Binding.{Binding}
-use Rattle.oc_linking.specs.declared.terms.Binding.TheVariants.{Local, Global, Undefined, Common, Weak}
-use Rattle.oc_neutral.specs.declared.section.Section.{Section}
-use Rattle.oc_neutral.specs.declared.symbol.Symbol.{Symbol}
-use Rattle.oc_neutral.specs.Alignments.{common_align, output_align}
+use Rattle.oc_linking.specs.{declared.terms.Binding.{Binding}, declared.terms.Binding.TheVariants.{Local, Global, Undefined, Common, Weak}}
+use Rattle.oc_neutral.specs.{declared.section.Section.{Section}, declared.symbol.Symbol.{Symbol}, Alignments.{common_align, output_align}}
 use Rattle.oc_neutral.specs.Dressing.{aligned_among, aligned_binding, aligned_symbol, dressed, dressed_among, dressed_section, realigned}
-use Rattle.oc_target.specs.Fitted.{fitted_binding, fitted_symbol}
-use Rattle.oc_neutral.specs.HomeNames.{output_tag}
-use Rattle.oc_neutral.specs.Invariants.{IsAlign, IsBinding, IsObject, IsSymbol}
-use Rattle.oc_neutral.specs.Objects.{Object}
-use Rattle.oc_neutral.proofs.FieldLists.{take_here}
-use Rattle.oc_neutral.proofs.Partly.{partly, partly_more, partly_next}
-use Rattle.oc_neutral.proofs.Positions.{each_at}
-use Rattle.oc_target.specs.Dress.{dressed_at}
-use Rattle.oc_target.proofs.Aligning.{common_is}
-use Rattle.oc_target.proofs.Lately.{lately, lately_before, lately_step, length-lately}
+use Rattle.oc_neutral.specs.{HomeNames.{output_tag}, Invariants.{IsAlign, IsBinding, IsObject, IsSymbol}, Objects.{Object}}
+use Rattle.oc_target.specs.{Fitted.{fitted_binding, fitted_symbol}, Dress.{dressed_at}}
+use Rattle.oc_neutral.proofs.{FieldLists.{take_here}, Partly.{partly, partly_more, partly_next}, Positions.{each_at}}
+use Rattle.oc_target.proofs.{Aligning.{common_is}, Lately.{lately, lately_before, lately_step, length-lately}}
 
 -- lists of one length that end alike are alike
 ends_same : {X : Type 0} (xs ws : List X) (y v : X) → length xs ≡ length ws → xs ++ y ∷ [] ≡ ws ++ v ∷ [] → (xs ≡ ws) × (y ≡ v)

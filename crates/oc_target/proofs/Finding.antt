@@ -5,10 +5,8 @@ use Rattle.oc_base.specs.declared.format.Format.{Format}
 use Rattle.oc_linking.specs.declared.terms.Hint.{Hint}
 use Rattle.oc_algebra.specs.declared.form.Form.{Form}
 use Rattle.oc_neutral.specs.Rows as rows
-use Rattle.oc_neutral.specs.RelocTables.{rows_of}
-use Rattle.oc_neutral.specs.Spelling.{is_written}
-use Rattle.oc_target.specs.declared.rows.Row.{Row}
-use Rattle.oc_target.specs.Tables.{meant, written_rows}
+use Rattle.oc_neutral.specs.{RelocTables.{rows_of}, Spelling.{is_written}}
+use Rattle.oc_target.specs.{declared.rows.Row.{Row}, Tables.{meant, written_rows}}
 
 -- a type that is read only is not found
 pub find_canonical : (form : Form) (hint : Hint) (taken : rows.Taken) (xs : List rows.Row)

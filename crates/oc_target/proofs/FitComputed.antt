@@ -1,54 +1,27 @@
 -- What an object is in a target is what fitting makes of it.
 use Rattle.std.proofs.Common.{◌≡◌, ℕ, zero, suc, ◌+◌, ◌<◌, Bool, true, false, cond, List, [], ◌∷◌, length, map, filter, replicate, get_or, Option, Some, None, refl, sym, ◌∙◌, ap, arith, rules}
-use Rattle.std.specs.Prelude.{not, nat_eq, if◌then◌else◌, slice_get}
-use Rattle.std.specs.List.{AllByRecursion, enumerate_from}
+use Rattle.std.specs.{Prelude.{not, nat_eq, if◌then◌else◌, slice_get}, List.{AllByRecursion, enumerate_from}}
 use Rattle.std.specs.Option.{option_map, option_map_or, option_and_then}
-use Rattle.std.proofs.lemmas.Bool.{eqb-true}
-use Rattle.std.proofs.lemmas.List.{length-map}
-use Rattle.std.proofs.lemmas.List.Recursion.{is_position_or_len}
+use Rattle.std.proofs.lemmas.{Bool.{eqb-true}, List.{length-map}, List.Recursion.{is_position_or_len}}
 use Rattle.std.proofs.lemmas.Option.{none-some, same_Some, slice_get-map, slice_get_within, get_or_from_slice_get}
-use Rattle.oc_base.specs.declared.format.Format.{Format}
-use Rattle.oc_base.specs.Formats.{word_for}
-use Rattle.oc_linking.specs.declared.terms.Patch.{Patch}
+use Rattle.oc_base.specs.{declared.format.Format.{Format}, Formats.{word_for}}
+use Rattle.oc_linking.specs.{declared.terms.Patch.{Patch}, Placing.{zeros}, Values.{Valuation, worthless}, Rules.{Named, Symbolic, Sectional}, Images.{overlay}}
+use Rattle.oc_linking.specs.{Linking.{patch_of}, Shows.{live_of, unders}}
 use Rattle.oc_linking.specs.Parts as parts
-use Rattle.oc_linking.specs.Placing.{zeros}
-use Rattle.oc_linking.specs.Values.{Valuation, worthless}
-use Rattle.oc_linking.specs.Rules.{Named, Symbolic, Sectional}
-use Rattle.oc_linking.specs.Images.{overlay}
-use Rattle.oc_linking.specs.Linking.{patch_of}
-use Rattle.oc_linking.specs.Shows.{live_of, unders}
-use Rattle.oc_chains.specs.declared.field.Field.{Field}
-use Rattle.oc_chains.specs.Fields.{end_of, FollowFrom}
-use Rattle.oc_chains.specs.Lists.{list_of}
-use Rattle.oc_neutral.specs.declared.group.Group.{Group}
-use Rattle.oc_neutral.specs.declared.section.Section.{Section}
+use Rattle.oc_chains.specs.{declared.field.Field.{Field}, Fields.{end_of, FollowFrom}, Lists.{list_of}}
+use Rattle.oc_neutral.specs.{declared.group.Group.{Group}, declared.section.Section.{Section}, declared.reloc.Reloc.{Reloc}}
+use Rattle.oc_neutral.specs.{Objects.{Object, reloc_among, reloc_at}, Building.{is_zero}, Invariants.{HasItsBytes, IsObject, groups_of}}
+use Rattle.oc_neutral.specs.{HomeNames.{output_names}, Stored.{is_stored}, Relocated.{stays}}
+use Rattle.oc_neutral.specs.{Faces.{key_of, contents_of, field_of, shown_section, shown_sections, shown_symbols, frame_of}, Constants.{staying}}
 use Rattle.oc_neutral.specs.declared.reloc.Target.TheVariants as aim
-use Rattle.oc_neutral.specs.declared.reloc.Reloc.{Reloc}
-use Rattle.oc_neutral.specs.Objects.{Object, reloc_among, reloc_at}
-use Rattle.oc_neutral.specs.Building.{is_zero}
-use Rattle.oc_neutral.specs.Invariants.{HasItsBytes, IsObject, groups_of}
-use Rattle.oc_neutral.specs.HomeNames.{output_names}
-use Rattle.oc_neutral.specs.Stored.{is_stored}
-use Rattle.oc_neutral.specs.Relocated.{stays}
-use Rattle.oc_neutral.specs.Faces.{key_of, contents_of, field_of, shown_section, shown_sections, shown_symbols, frame_of}
-use Rattle.oc_shows.specs.Shows.{reloc_look, patches_of}
-use Rattle.oc_target.specs.Fitted.{fitted_frame, fitted_frames, is_stored_at, FitsAt, IsFit}
-use Rattle.oc_target.specs.TargetLaws.{FitIsComputed}
-use Rattle.oc_shows.specs.Computed.{position_of, placed_target, reloc_for}
+use Rattle.oc_shows.specs.{Shows.{reloc_look, patches_of}, Computed.{position_of, placed_target, reloc_for}}
+use Rattle.oc_target.specs.{Fitted.{fitted_frame, fitted_frames, is_stored_at, FitsAt, IsFit}, TargetLaws.{FitIsComputed}}
 use Rattle.oc_target.specs.Fitting.{constants, fitted_section, fit_of}
-use Rattle.oc_neutral.specs.Constants.{staying}
-use Rattle.oc_neutral.proofs.Positions.{each_at, images_same}
-use Rattle.oc_neutral.proofs.GroupLemmas.{keys_of, keys-shown, groups_same}
-use Rattle.oc_neutral.proofs.Numbered.{computed_list, overlay_at}
-use Rattle.oc_neutral.proofs.SameParts.{bytes_are, filled, parts_same}
-use Rattle.oc_target.proofs.FitLinks.{shown-fit}
-use Rattle.oc_neutral.proofs.Mapped.{from_mapped}
-use Rattle.oc_target.proofs.Refit.{refit}
-use Rattle.oc_target.proofs.StoredConstants.{constants_fill}
-use Rattle.oc_neutral.proofs.FoundRelocs.{widths_at, found_at}
+use Rattle.oc_neutral.proofs.{Positions.{each_at, images_same}, GroupLemmas.{keys_of, keys-shown, groups_same}, Numbered.{computed_list, overlay_at}}
+use Rattle.oc_neutral.proofs.{SameParts.{bytes_are, filled, parts_same}, Mapped.{from_mapped}, FoundRelocs.{widths_at, found_at}}
+use Rattle.oc_neutral.proofs.{SortedFields.{HasWidth, other_first, none_before, fields_same}, FieldLists.{follow_filter}}
+use Rattle.oc_target.proofs.{FitLinks.{shown-fit}, Refit.{refit}, StoredConstants.{constants_fill}}
 use Rattle.oc_shows.proofs.ComputedRelocs.{reloc-computed}
-use Rattle.oc_neutral.proofs.SortedFields.{HasWidth, other_first, none_before, fields_same}
-use Rattle.oc_neutral.proofs.FieldLists.{follow_filter}
 
 module _ (target from : Format) (groups : List Group) where
   -- the sections of a target are in the groups that they were in

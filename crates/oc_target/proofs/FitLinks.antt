@@ -1,43 +1,24 @@
 -- Linking an object in a target is linking the object.
 use Rattle.std.proofs.Common.{◌≡◌, ℕ, ◌+◌, ◌^◌, ◌<◌, ◌≤◌, Bool, true, false, List, map, Some, refl, sym, ◌∙◌, ap, subst, arith}
 use mathlib.Core.Path.{fun_ext}
-use Rattle.std.specs.Prelude.{not, ◌&&◌}
-use Rattle.std.proofs.lemmas.Bool.Decides.{nat_tests}
-use Rattle.std.specs.Option.{option_map, option_map_or}
-use Rattle.std.proofs.lemmas.Bool.{true≢false, and_parts}
-use Rattle.oc_base.specs.declared.format.Format.{Format}
-use Rattle.oc_base.specs.declared.format.Format.TheVariants.{Mac64}
-use Rattle.oc_base.specs.declared.format.Word.{Word}
-use Rattle.oc_base.specs.declared.format.Word.TheVariants.{W32, W64}
-use Rattle.oc_base.specs.Formats.{word_for}
-use Rattle.oc_linking.specs.declared.terms.Width.{Width}
-use Rattle.oc_linking.specs.declared.terms.Width.TheVariants.{One, Two, Four, Eight}
-use Rattle.oc_linking.specs.declared.terms.Check.{Check}
-use Rattle.oc_linking.specs.declared.terms.Check.TheVariants.{Wrap, Signed, Unsigned, Either}
-use Rattle.oc_linking.specs.declared.terms.Patch.{Patch}
-use Rattle.oc_linking.specs.Fits.{bytes_of, fits}
-use Rattle.oc_linking.specs.Placing.{Placement, Outside}
-use Rattle.oc_linking.specs.Values.{Valuation, values}
-use Rattle.oc_linking.specs.Images.{Patches, overlays, emptied, overflows}
-use Rattle.oc_linking.specs.Linking.{patch_of, link_of, exports}
+use Rattle.std.specs.{Prelude.{not, ◌&&◌}, Option.{option_map, option_map_or}}
+use Rattle.std.proofs.lemmas.{Bool.Decides.{nat_tests}, Bool.{true≢false, and_parts}}
+use Rattle.oc_base.specs.{declared.format.Format.{Format}, declared.format.Format.TheVariants.{Mac64}, declared.format.Word.{Word}}
+use Rattle.oc_base.specs.{declared.format.Word.TheVariants.{W32, W64}, Formats.{word_for}}
+use Rattle.oc_linking.specs.{declared.terms.Width.{Width}, declared.terms.Width.TheVariants.{One, Two, Four, Eight}, declared.terms.Check.{Check}}
+use Rattle.oc_linking.specs.{declared.terms.Check.TheVariants.{Wrap, Signed, Unsigned, Either}, declared.terms.Patch.{Patch}, Fits.{bytes_of, fits}}
+use Rattle.oc_linking.specs.{Placing.{Placement, Outside}, Values.{Valuation, values}, Images.{Patches, overlays, emptied, overflows}}
+use Rattle.oc_linking.specs.{Linking.{patch_of, link_of, exports}, Shows.{Apart, lives, unders}}
 use Rattle.oc_linking.specs.Shows as linking
-use Rattle.oc_linking.specs.Shows.{Apart, lives, unders}
-use Rattle.oc_linking.proofs.Overlay.{emptied-overlays}
-use Rattle.oc_linking.proofs.Alike.{link_of_folded}
+use Rattle.oc_linking.proofs.{Overlay.{emptied-overlays}, Alike.{link_of_folded}}
 use Rattle.oc_chains.specs.Lists.{list_of}
-use Rattle.oc_neutral.specs.declared.reloc.Reloc.{Reloc}
-use Rattle.oc_neutral.specs.Objects.{Object, reloc_at}
-use Rattle.oc_neutral.specs.Invariants.{IsObject}
-use Rattle.oc_neutral.specs.Worth.{residue_at}
-use Rattle.oc_neutral.specs.Faces.{contents_of, field_of, linked_object, shown_symbol, shown_symbols}
-use Rattle.oc_neutral.specs.Families.{family_of}
-use Rattle.oc_neutral.specs.Mach.SelfReferences.{is_address, is_place, is_eight, is_long_distance, is_section, is_self_reference}
-use Rattle.oc_neutral.specs.Stored.{is_stored}
+use Rattle.oc_neutral.specs.{declared.reloc.Reloc.{Reloc}, Objects.{Object, reloc_at}, Invariants.{IsObject}, Worth.{residue_at}}
+use Rattle.oc_neutral.specs.{Faces.{contents_of, field_of, linked_object, shown_symbol, shown_symbols}, Families.{family_of}}
+use Rattle.oc_neutral.specs.{Mach.SelfReferences.{is_address, is_place, is_eight, is_long_distance, is_section, is_self_reference}, Stored.{is_stored}}
 use Rattle.oc_shows.specs.Shows.{patches_of}
 use Rattle.oc_target.specs.Fitted.{IsFit, is_stored_at}
 use Rattle.oc_target.proofs.Refit.{refit, symbols-fitted, values-refit, exports-refit}
-use Rattle.oc_neutral.proofs.Standing.{ends_by, wide}
-use Rattle.oc_neutral.proofs.Mapped.{from_mapped}
+use Rattle.oc_neutral.proofs.{Standing.{ends_by, wide}, Mapped.{from_mapped}}
 
 -- a residue of 64 bits fits eight bytes by every check
 eight_bytes_fit : (check : Check) (r : ℕ) → r < 2 ^ 64 → fits W64 Eight check r ≡ true

@@ -1,16 +1,10 @@
 -- Names that are given to a string table, one after another.
 use Rattle.std.proofs.Common.{◌≡◌, refl, ℕ, suc, ◌+◌, ◌<◌, ◌≤◌, ◌&&◌, Bool, true, false, cond, List, [], ◌∷◌, ◌++◌, length, map, Some, ◌∙◌, ap, sym, arith}
-use Rattle.std.specs.Prelude.{slice_get, drop, filter, not, ◌-◌}
-use Rattle.std.specs.List.{flat_map, range_with_len}
-use Rattle.std.proofs.lemmas.List.{append_assoc, append-nil}
-use Rattle.std.proofs.lemmas.List.Elements.{filter-append}
-use Rattle.oc_linking.specs.declared.terms.Value.{Value}
-use Rattle.oc_linking.specs.Parts.{is_local}
-use Rattle.oc_neutral.specs.declared.symbol.Symbol.{Symbol}
-use Rattle.oc_neutral.specs.Bindings.{is_written_by}
-use Rattle.oc_neutral.specs.Coff.Strings.{is_long, defaults_of, is_tabled, names_where, key_strings, coff_strings}
-use Rattle.oc_neutral.specs.KeySymbols.{is_key}
-use Rattle.oc_neutral.specs.Objects.{Object}
+use Rattle.std.specs.{Prelude.{slice_get, drop, filter, not, ◌-◌}, List.{flat_map, range_with_len}}
+use Rattle.std.proofs.lemmas.{List.{append_assoc, append-nil}, List.Elements.{filter-append}}
+use Rattle.oc_linking.specs.{declared.terms.Value.{Value}, Parts.{is_local}}
+use Rattle.oc_neutral.specs.{declared.symbol.Symbol.{Symbol}, Bindings.{is_written_by}}
+use Rattle.oc_neutral.specs.{Coff.Strings.{is_long, defaults_of, is_tabled, names_where, key_strings, coff_strings}, KeySymbols.{is_key}, Objects.{Object}}
 use Rattle.oc_neutral.proofs.FieldLists.{drop_here}
 
 -- more is given, and less is left

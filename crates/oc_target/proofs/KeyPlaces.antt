@@ -1,20 +1,10 @@
 -- Where a symbol is the key symbol of a group, and what it is called there.
 use Rattle.std.proofs.Common.{◌≡◌, refl, ℕ, suc, ◌&&◌, ◌||◌, Bool, true, false, cond, List, [], ◌∷◌, map, Some, None, ◌∙◌, ap, sym, arith}
-use Rattle.std.specs.Prelude.{nat_eq, slice_get, filter, bytes_eq}
-use Rattle.std.specs.List.{list_any}
-use Rattle.std.specs.Option.{option_map_or, option_and_then}
-use Rattle.std.proofs.lemmas.Bool.{and_parts, eqb-true, eq-eqb, false_from_ne_true}
-use Rattle.std.proofs.lemmas.Option.{none-some, same_Some}
-use Rattle.std.proofs.lemmas.Slice.Eq.{bytes_eq-Decides}
-use Rattle.oc_linking.specs.declared.terms.Binding.{Binding}
-use Rattle.oc_linking.specs.declared.terms.Binding.TheVariants.{Local, Global, Undefined, Common, Weak}
-use Rattle.oc_linking.specs.Parts.{is_local}
-use Rattle.oc_neutral.specs.declared.symbol.Symbol.{Symbol}
-use Rattle.oc_neutral.specs.Objects.{Object}
-use Rattle.oc_neutral.specs.Faces.{key_of}
-use Rattle.oc_neutral.specs.Invariants.{AreDistinct}
-use Rattle.oc_neutral.specs.KeySymbols.{global_place, group_at, is_key_name, is_key_at}
-use Rattle.oc_neutral.specs.Normal.{Place}
+use Rattle.std.specs.{Prelude.{nat_eq, slice_get, filter, bytes_eq}, List.{list_any}, Option.{option_map_or, option_and_then}}
+use Rattle.std.proofs.lemmas.{Bool.{and_parts, eqb-true, eq-eqb, false_from_ne_true}, Option.{none-some, same_Some}, Slice.Eq.{bytes_eq-Decides}}
+use Rattle.oc_linking.specs.{declared.terms.Binding.{Binding}, declared.terms.Binding.TheVariants.{Local, Global, Undefined, Common, Weak}, Parts.{is_local}}
+use Rattle.oc_neutral.specs.{declared.symbol.Symbol.{Symbol}, Objects.{Object}, Faces.{key_of}, Invariants.{AreDistinct}}
+use Rattle.oc_neutral.specs.{KeySymbols.{global_place, group_at, is_key_name, is_key_at}, Normal.{Place}}
 use Rattle.oc_target.proofs.MeetsParts.{some_passes}
 
 -- numbers are compared either way

@@ -1,13 +1,9 @@
 -- Sections that are marked, one after another.
 use Rattle.std.proofs.Common.{◌≡◌, refl, ℕ, ◌+◌, ◌≤◌, ◌||◌, Bool, true, false, List, length, Some, ◌∙◌, ap}
-use Rattle.std.specs.Prelude.{slice_get, drop}
-use Rattle.std.specs.List.{count_by, list_any, enumerate_from, range_with_len}
-use Rattle.std.proofs.lemmas.List.{drop_all}
-use Rattle.std.proofs.lemmas.List.Sums.{length-filter}
+use Rattle.std.specs.{Prelude.{slice_get, drop}, List.{count_by, list_any, enumerate_from, range_with_len}}
+use Rattle.std.proofs.lemmas.{List.{drop_all}, List.Sums.{length-filter}}
 use Rattle.oc_chains.specs.declared.field.Field.{Field}
-use Rattle.oc_neutral.specs.declared.reloc.Reloc.{Reloc}
-use Rattle.oc_neutral.specs.Objects.{Object}
-use Rattle.oc_neutral.specs.Mach.SectionSymbols.{any_names, needs_section_symbol, needed_sections}
+use Rattle.oc_neutral.specs.{declared.reloc.Reloc.{Reloc}, Objects.{Object}, Mach.SectionSymbols.{any_names, needs_section_symbol, needed_sections}}
 use Rattle.oc_neutral.proofs.FieldLists.{drop_here}
 
 -- one of three

@@ -1,52 +1,23 @@
 -- Every object that is ready for COFF meets what its writer uses.
 use Rattle.std.proofs.Common.{◌≡◌, ℕ, ◌+◌, ◌^◌, ◌<◌, ◌≤◌, true, false, cond, ◌&&◌, ◌||◌, List, length, Some, None, refl, sym, ◌∙◌, ap, subst, arith}
-use Rattle.std.specs.Prelude.{map, slice_get, nat_eq, nat_lt, not}
-use Rattle.std.specs.Option.{option_map, option_map_or}
+use Rattle.std.specs.{Prelude.{map, slice_get, nat_eq, nat_lt, not}, Option.{option_map, option_map_or}}
 use Rattle.std.proofs.lemmas.Bool.{and_parts, ltb-true, or_parts, not-false}
-use Rattle.oc_base.specs.declared.format.Format.{Format}
-use Rattle.oc_base.specs.declared.format.Format.TheVariants.{Coff32, Coff64, Mac64, BigCoff32, BigCoff64}
-use Rattle.oc_base.specs.Formats.{word_for}
-use Rattle.oc_linking.specs.declared.terms.Kind.{Kind}
-use Rattle.oc_linking.specs.declared.terms.Hint.TheVariants.{Plain}
-use Rattle.oc_linking.specs.declared.terms.Value.TheVariants.{Absolute}
-use Rattle.oc_linking.specs.declared.terms.Binding.TheVariants.{Global, Common}
-use Rattle.oc_linking.specs.Numbers.{modulus}
-use Rattle.oc_neutral.specs.Tests.{is_cut, is_unnatural}
-use Rattle.oc_neutral.specs.Family.{IsCoff, Family}
-use Rattle.oc_neutral.specs.Powers.{natural_align}
-use Rattle.oc_neutral.specs.declared.coff.TheConstants.{MOST_NAME_OFFSET}
-use Rattle.oc_neutral.specs.declared.section.Section.{Section}
-use Rattle.oc_neutral.specs.declared.symbol.Symbol.{Symbol}
-use Rattle.oc_neutral.specs.declared.reloc.Reloc.{Reloc}
-use Rattle.oc_neutral.specs.Alignments.{common_align}
-use Rattle.oc_target.specs.CoffMeets.{offset_of, CoffSection, IsNaturalCommon, CoffSymbol, CoffReloc, FittedMeetsCoff}
-use Rattle.oc_neutral.specs.Coff.Strings.{is_tabled, string_offset}
-use Rattle.oc_neutral.specs.Families.{family_of, container_of, section_range}
-use Rattle.oc_neutral.specs.Relocated.{is_relocated}
-use Rattle.oc_neutral.specs.Coff.Family.{coff_family, is_far}
-use Rattle.oc_target.specs.Fitted.{fitted_binding, IsFitted}
-use Rattle.oc_neutral.specs.HomeNames.{is_home, output_names}
-use Rattle.oc_neutral.specs.Invariants.{IsAlign, IsSymbol, IsBinding}
-use Rattle.oc_neutral.specs.KeySymbols.{has_key_symbol}
+use Rattle.oc_base.specs.{declared.format.Format.{Format}, declared.format.Format.TheVariants.{Coff32, Coff64, Mac64, BigCoff32, BigCoff64}, Formats.{word_for}}
+use Rattle.oc_linking.specs.{declared.terms.Kind.{Kind}, declared.terms.Hint.TheVariants.{Plain}, declared.terms.Value.TheVariants.{Absolute}}
+use Rattle.oc_linking.specs.{declared.terms.Binding.TheVariants.{Global, Common}, Numbers.{modulus}}
+use Rattle.oc_neutral.specs.{Tests.{is_cut, is_unnatural}, Family.{IsCoff, Family}, Powers.{natural_align}, declared.coff.TheConstants.{MOST_NAME_OFFSET}}
+use Rattle.oc_neutral.specs.{declared.section.Section.{Section}, declared.symbol.Symbol.{Symbol}, declared.reloc.Reloc.{Reloc}, Alignments.{common_align}}
+use Rattle.oc_neutral.specs.{Coff.Strings.{is_tabled, string_offset}, Families.{family_of, container_of, section_range}, Relocated.{is_relocated}}
+use Rattle.oc_neutral.specs.{Coff.Family.{coff_family, is_far}, HomeNames.{is_home, output_names}, Invariants.{IsAlign, IsSymbol, IsBinding}}
+use Rattle.oc_neutral.specs.{KeySymbols.{has_key_symbol}, Objects.{Object, reloc_at}, RelocTables.{rows_of, row_of}}
+use Rattle.oc_neutral.specs.{Rows.{Row, TakesSection, same_taken, shift_of}, Shifts.{field_shift, written_shift}, Spelling.{written_row}}
+use Rattle.oc_neutral.specs.{TargetSections.{section_conditions}, TargetSymbols.{is_absolute_form, is_common_form, symbol_conditions}}
+use Rattle.oc_target.specs.{CoffMeets.{offset_of, CoffSection, IsNaturalCommon, CoffSymbol, CoffReloc, FittedMeetsCoff}, Fitted.{fitted_binding, IsFitted}}
 use Rattle.oc_target.specs.Meets.{has_calls, MeetsReloc}
-use Rattle.oc_neutral.specs.Objects.{Object, reloc_at}
-use Rattle.oc_neutral.specs.RelocTables.{rows_of, row_of}
-use Rattle.oc_neutral.specs.Rows.{Row, TakesSection, same_taken, shift_of}
-use Rattle.oc_neutral.specs.Shifts.{field_shift, written_shift}
-use Rattle.oc_neutral.specs.Spelling.{written_row}
-use Rattle.oc_neutral.specs.TargetSections.{section_conditions}
-use Rattle.oc_neutral.specs.TargetSymbols.{is_absolute_form, is_common_form, symbol_conditions}
-use Rattle.oc_neutral.proofs.Formats.{of_coff, most_sections}
-use Rattle.oc_target.proofs.MeetsConditions.{not_below, section_count_met, section_met, symbol_met}
-use Rattle.oc_target.proofs.MeetsCounts.{bounded_object}
-use Rattle.oc_target.proofs.MeetsGroups.{group_member}
-use Rattle.oc_target.proofs.MeetsKinds.{IsCoffTag, coff_named}
-use Rattle.oc_target.proofs.MeetsParts.{positive, power, uncut, led, taken_alike, plain_shift}
-use Rattle.oc_target.proofs.MeetsRelocs.{reloc_meets}
-use Rattle.oc_target.proofs.MeetsRows.{of_table}
-use Rattle.oc_target.proofs.MeetsStrings.{section_given, symbol_given, default_given}
-use Rattle.oc_target.proofs.MeetsStringSum.{strings_fit}
-use Rattle.oc_neutral.proofs.Positions.{each_at}
+use Rattle.oc_neutral.proofs.{Formats.{of_coff, most_sections}, Positions.{each_at}}
+use Rattle.oc_target.proofs.{MeetsConditions.{not_below, section_count_met, section_met, symbol_met}, MeetsCounts.{bounded_object}, MeetsGroups.{group_member}}
+use Rattle.oc_target.proofs.{MeetsKinds.{IsCoffTag, coff_named}, MeetsParts.{positive, power, uncut, led, taken_alike, plain_shift}, MeetsRelocs.{reloc_meets}}
+use Rattle.oc_target.proofs.{MeetsRows.{of_table}, MeetsStrings.{section_given, symbol_given, default_given}, MeetsStringSum.{strings_fit}}
 
 -- the family of such a format
 coff_whole : (format : Format) → container_of format ≡ IsCoff → family_of format ≡ coff_family (family_of format).word

@@ -1,30 +1,19 @@
 -- An object that is ready to be written breaks no condition of its target: each section, symbol and relocation meets each.
 use Rattle.std.proofs.Common.{◌≡◌, ℕ, zero, suc, ◌+◌, ◌<◌, ◌≤◌, Bool, true, false, cond, ◌&&◌, ◌||◌, eqb, List, [], ◌∷◌, ◌++◌, length, map, get_or, Some, None, refl, sym, ◌∙◌, ap, subst, arith}
-use Rattle.std.specs.Prelude.{slice_get, nat_lt}
-use Rattle.std.specs.List.{AllByRecursion}
-use Rattle.std.specs.Option.{option_map, option_map_or}
-use Rattle.std.proofs.lemmas.Bool.{eqb-true, eq-eqb}
-use Rattle.std.proofs.lemmas.Bool.Decides.{nat_tests}
-use Rattle.std.proofs.lemmas.Option.{none-some, same_Some, slice_get-map, get_or_from_slice_get}
-use Rattle.oc_base.specs.declared.format.Format.{Format}
-use Rattle.oc_base.specs.declared.format.Word.{Word}
-use Rattle.oc_base.specs.declared.format.Word.TheVariants.{W32, W64}
+use Rattle.std.specs.{Prelude.{slice_get, nat_lt}, List.{AllByRecursion}, Option.{option_map, option_map_or}}
+use Rattle.std.proofs.lemmas.{Bool.{eqb-true, eq-eqb}, Bool.Decides.{nat_tests}, Option.{none-some, same_Some, slice_get-map, get_or_from_slice_get}}
+use Rattle.oc_base.specs.{declared.format.Format.{Format}, declared.format.Word.{Word}, declared.format.Word.TheVariants.{W32, W64}}
 use Rattle.oc_base.specs.declared.fault.Fault.{Fault}
 use Rattle.oc_linking.specs.FirstFault.{Condition, Stage, first_fault}
 use Rattle.oc_linking.proofs.FirstFaultLaws.{no_fault_none_broken}
-use Rattle.oc_chains.specs.declared.field.Field.{Field}
-use Rattle.oc_chains.specs.Lists.{Lists, list_of}
-use Rattle.oc_neutral.specs.declared.section.Section.{Section}
-use Rattle.oc_neutral.specs.declared.symbol.Symbol.{Symbol}
-use Rattle.oc_neutral.specs.declared.reloc.Reloc.{Reloc}
-use Rattle.oc_neutral.specs.Family.{container_number}
-use Rattle.oc_neutral.specs.Families.{family_of, container_of, same_word, same_format}
-use Rattle.oc_target.specs.Fitted.{first_unfit, IsFitted}
-use Rattle.oc_neutral.specs.HomeNames.{output_names, names_across}
+use Rattle.oc_chains.specs.{declared.field.Field.{Field}, Lists.{Lists, list_of}}
+use Rattle.oc_neutral.specs.{declared.section.Section.{Section}, declared.symbol.Symbol.{Symbol}, declared.reloc.Reloc.{Reloc}, Family.{container_number}}
+use Rattle.oc_neutral.specs.{Families.{family_of, container_of, same_word, same_format}, HomeNames.{output_names, names_across}}
 use Rattle.oc_neutral.specs.Objects.{Object, reloc_among, reloc_at}
 use Rattle.oc_neutral.specs.TargetSections.{each_of, section_count, section_conditions, conditions_at, section_stages}
 use Rattle.oc_neutral.specs.TargetSymbols.{symbol_count, symbol_conditions, symbol_stages}
 use Rattle.oc_neutral.specs.TargetRelocations.{PlacedReloc, placed_relocs_in, placed_relocs_from, placed_relocs, spot_of, reloc_conditions, standing_conditions, relocation_stages}
+use Rattle.oc_target.specs.Fitted.{first_unfit, IsFitted}
 
 -- no condition is broken
 abbrev pub AreMet : List Condition → Type 0

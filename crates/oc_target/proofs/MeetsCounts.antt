@@ -1,27 +1,16 @@
 -- The counts and sums of an object that is ready to be written are bounded.
 use Rattle.std.proofs.Common.{◌≡◌, ℕ, suc, ◌+◌, ◌^◌, ◌≤◌, Bool, true, false, cond, List, [], ◌∷◌, ◌++◌, length, Option, Some, None, refl, ◌∙◌, ap, arith}
-use Rattle.std.specs.Prelude.{slice_get, sum_by, nat_eq}
-use Rattle.std.specs.List.{AllByRecursion}
-use Rattle.std.specs.Option.{option_map_or}
+use Rattle.std.specs.{Prelude.{slice_get, sum_by, nat_eq}, List.{AllByRecursion}, Option.{option_map_or}}
 use Rattle.std.proofs.lemmas.List.Sums.{sum_by-cons}
 use Rattle.oc_base.specs.declared.format.Format.{Format}
 use Rattle.oc_linking.specs.FirstFault.{Condition}
-use Rattle.oc_chains.specs.declared.field.Field.{Field}
-use Rattle.oc_chains.specs.Fields.{FollowFrom, end_of}
-use Rattle.oc_chains.specs.Lists.{Lists, list_of, held_in}
-use Rattle.oc_neutral.specs.declared.section.Section.{Section}
-use Rattle.oc_neutral.specs.declared.reloc.Reloc.{Reloc}
-use Rattle.oc_neutral.specs.Building.{stored_size, stored_sum}
-use Rattle.oc_neutral.specs.Families.{family_of}
-use Rattle.oc_target.specs.Fitted.{IsFitted}
-use Rattle.oc_neutral.specs.HomeNames.{output_names}
-use Rattle.oc_neutral.specs.Invariants.{AreBegun, begun_with, groups_of, HasItsBytes, IsHeld}
-use Rattle.oc_target.specs.Meets.{text_sum, AreBounded}
-use Rattle.oc_neutral.specs.Objects.{Object}
+use Rattle.oc_chains.specs.{declared.field.Field.{Field}, Fields.{FollowFrom, end_of}, Lists.{Lists, list_of, held_in}}
+use Rattle.oc_neutral.specs.{declared.section.Section.{Section}, declared.reloc.Reloc.{Reloc}, Building.{stored_size, stored_sum}, Families.{family_of}}
+use Rattle.oc_neutral.specs.{HomeNames.{output_names}, Invariants.{AreBegun, begun_with, groups_of, HasItsBytes, IsHeld}, Objects.{Object}}
 use Rattle.oc_neutral.specs.TargetSymbols.{bounded, names_length, limited}
+use Rattle.oc_target.specs.{Fitted.{IsFitted}, Meets.{text_sum, AreBounded}}
 use Rattle.oc_target.proofs.MeetsConditions.{AreMet, not_below, own_names, symbol_count_met}
-use Rattle.oc_neutral.proofs.Positions.{each_at}
-use Rattle.oc_neutral.proofs.LeftObject.{sum_map}
+use Rattle.oc_neutral.proofs.{Positions.{each_at}, LeftObject.{sum_map}}
 
 -- ... fields
 

@@ -1,49 +1,26 @@
 -- Every object that is ready for ELF meets what its writer uses.
-use Rattle.oc_base.specs.declared.format.Word.TheVariants.{W32}
-use Rattle.oc_base.specs.Formats.{word_for}
-use Rattle.std.proofs.Common.{◌≡◌, ℕ, ◌+◌, ◌^◌, ◌<◌, ◌≤◌, Bool, true, false, cond, ◌&&◌, ◌||◌, List, [], Some, None, refl, sym, ◌∙◌, ap, subst, arith}
-use Rattle.std.specs.Prelude.{map, slice_get, nat_lt}
-use Rattle.std.specs.Option.{option_map, option_map_or}
-use Rattle.std.proofs.lemmas.Bool.{true≢false, and_parts, ltb-true}
-use Rattle.std.proofs.lemmas.Option.{none-some}
-use Rattle.oc_base.specs.declared.format.Format.{Format}
+use Rattle.oc_base.specs.{declared.format.Word.TheVariants.{W32}, Formats.{word_for}, declared.format.Format.{Format}}
 use Rattle.oc_base.specs.declared.format.Format.TheVariants.{Elf32, Elf64, Mac64, BigElf32, BigElf64}
-use Rattle.oc_linking.specs.declared.terms.Kind.{Kind}
-use Rattle.oc_linking.specs.declared.terms.Kind.TheVariants.{Zero, Exception}
-use Rattle.oc_linking.specs.declared.terms.Base.TheVariants.{HomeNumber}
+use Rattle.std.proofs.Common.{◌≡◌, ℕ, ◌+◌, ◌^◌, ◌<◌, ◌≤◌, Bool, true, false, cond, ◌&&◌, ◌||◌, List, [], Some, None, refl, sym, ◌∙◌, ap, subst, arith}
+use Rattle.std.specs.{Prelude.{map, slice_get, nat_lt}, Option.{option_map, option_map_or}}
+use Rattle.std.proofs.lemmas.{Bool.{true≢false, and_parts, ltb-true}, Option.{none-some}}
+use Rattle.oc_linking.specs.{declared.terms.Kind.{Kind}, declared.terms.Kind.TheVariants.{Zero, Exception}, declared.terms.Base.TheVariants.{HomeNumber}}
 use Rattle.oc_linking.specs.declared.terms.Hint.TheVariants.{Plain}
 use Rattle.oc_linking.specs.declared.terms.Fallback.TheVariants as fallback
 use Rattle.oc_chains.specs.Lists.{list_of}
-use Rattle.oc_neutral.specs.Family.{IsElf, Family}
-use Rattle.oc_neutral.specs.declared.section.Section.{Section}
-use Rattle.oc_neutral.specs.declared.symbol.Symbol.{Symbol}
-use Rattle.oc_neutral.specs.declared.reloc.Reloc.{Reloc}
-use Rattle.oc_target.specs.ElfMeets.{ElfSection, ElfSymbol, ElfReloc, FittedMeetsElf}
-use Rattle.oc_neutral.specs.Elf.Kinds.{elf_tag_type, is_nobits_tag}
-use Rattle.oc_neutral.specs.Families.{is_many, family_of, container_of, section_range}
-use Rattle.oc_neutral.specs.Relocated.{is_relocated}
-use Rattle.oc_neutral.specs.Elf.Family.{elf_family, header_count, elf_symbol_count}
-use Rattle.oc_target.specs.Fitted.{IsFitted}
-use Rattle.oc_neutral.specs.HomeNames.{is_home, output_names}
-use Rattle.oc_neutral.specs.Invariants.{HasItsBytes, IsAlign}
-use Rattle.oc_target.specs.Meets.{has_calls, MeetsReloc}
-use Rattle.oc_neutral.specs.Objects.{Object, reloc_among, reloc_at}
-use Rattle.oc_shows.specs.Readable.{AreZeros}
-use Rattle.oc_neutral.specs.RelocTables.{rows_of, row_of}
-use Rattle.oc_neutral.specs.Rows.{Row, TakesSection, same_taken, same_base, shift_of}
-use Rattle.oc_neutral.specs.Shifts.{field_shift, written_shift}
-use Rattle.oc_neutral.specs.Spelling.{written_row}
-use Rattle.oc_neutral.specs.TargetSections.{section_conditions}
+use Rattle.oc_neutral.specs.{Family.{IsElf, Family}, declared.section.Section.{Section}, declared.symbol.Symbol.{Symbol}, declared.reloc.Reloc.{Reloc}}
+use Rattle.oc_neutral.specs.{Elf.Kinds.{elf_tag_type, is_nobits_tag}, Families.{is_many, family_of, container_of, section_range}, Relocated.{is_relocated}}
+use Rattle.oc_neutral.specs.{Elf.Family.{elf_family, header_count, elf_symbol_count}, HomeNames.{is_home, output_names}, Invariants.{HasItsBytes, IsAlign}}
+use Rattle.oc_neutral.specs.{Objects.{Object, reloc_among, reloc_at}, RelocTables.{rows_of, row_of}, Rows.{Row, TakesSection, same_taken, same_base, shift_of}}
+use Rattle.oc_neutral.specs.{Shifts.{field_shift, written_shift}, Spelling.{written_row}, TargetSections.{section_conditions}}
 use Rattle.oc_neutral.specs.TargetSymbols.{bounded, is_weak_form, symbol_conditions}
-use Rattle.oc_neutral.proofs.Formats.{of_elf}
-use Rattle.oc_target.proofs.MeetsConditions.{AreMet, not_below, section_count_met, section_met, symbol_met}
-use Rattle.oc_target.proofs.MeetsCounts.{symbols_bounded, bounded_object}
-use Rattle.oc_target.proofs.MeetsGroups.{keys_uncut}
-use Rattle.oc_target.proofs.MeetsKinds.{IsElfTag, carried_small, elf_zero, elf_named}
-use Rattle.oc_target.proofs.MeetsParts.{all_bytes, power, uncut, steady, taken_alike, plain_shift, only_address}
-use Rattle.oc_target.proofs.MeetsRelocs.{reloc_meets}
+use Rattle.oc_target.specs.{ElfMeets.{ElfSection, ElfSymbol, ElfReloc, FittedMeetsElf}, Fitted.{IsFitted}, Meets.{has_calls, MeetsReloc}}
+use Rattle.oc_shows.specs.Readable.{AreZeros}
+use Rattle.oc_neutral.proofs.{Formats.{of_elf}, Positions.{each_at}}
+use Rattle.oc_target.proofs.{MeetsConditions.{AreMet, not_below, section_count_met, section_met, symbol_met}, MeetsCounts.{symbols_bounded, bounded_object}}
+use Rattle.oc_target.proofs.{MeetsGroups.{keys_uncut}, MeetsKinds.{IsElfTag, carried_small, elf_zero, elf_named}}
+use Rattle.oc_target.proofs.{MeetsParts.{all_bytes, power, uncut, steady, taken_alike, plain_shift, only_address}, MeetsRelocs.{reloc_meets}}
 use Rattle.oc_target.proofs.MeetsRows.{of_table}
-use Rattle.oc_neutral.proofs.Positions.{each_at}
 
 -- the family of such a format
 elf_whole : (format : Format) → container_of format ≡ IsElf → family_of format ≡ elf_family (is_many format) (family_of format).word

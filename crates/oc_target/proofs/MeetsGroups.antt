@@ -1,15 +1,10 @@
 -- Each group of an object has a member.
 use Rattle.std.proofs.Common.{◌≡◌, ℕ, zero, suc, ◌+◌, ◌<◌, ◌≤◌, Bool, true, false, cond, List, [], ◌∷◌, length, Option, Some, None, inl, inr, refl, sym, ◌∙◌, ap, arith}
-use Rattle.std.specs.Prelude.{slice_get, nat_eq}
-use Rattle.std.specs.Option.{option_map}
-use Rattle.std.proofs.lemmas.Bool.{eqb-true, cases_lt}
-use Rattle.std.proofs.lemmas.Option.{none-some}
-use Rattle.oc_neutral.specs.KindRules.{has_nul}
-use Rattle.oc_neutral.specs.declared.group.Group.{Group}
-use Rattle.oc_neutral.specs.declared.section.Section.{Section}
-use Rattle.oc_neutral.specs.Invariants.{AreBegun, groups_of, IsObject}
-use Rattle.oc_target.specs.Meets.{IsUncut}
+use Rattle.std.specs.{Prelude.{slice_get, nat_eq}, Option.{option_map}}
+use Rattle.std.proofs.lemmas.{Bool.{eqb-true, cases_lt}, Option.{none-some}}
+use Rattle.oc_neutral.specs.{KindRules.{has_nul}, declared.group.Group.{Group}, declared.section.Section.{Section}, Invariants.{AreBegun, groups_of, IsObject}}
 use Rattle.oc_neutral.specs.Objects.{Object}
+use Rattle.oc_target.specs.Meets.{IsUncut}
 use Rattle.oc_target.proofs.MeetsConditions.{below_length}
 
 -- a member of a group

@@ -1,24 +1,16 @@
 -- What names and tags that go with a kind say: the format's own rule gives the kind back.
 use Rattle.std.proofs.Common.{◌≡◌, ℕ, ◌^◌, ◌<◌, Bool, true, false, cond, not, ◌&&◌, ◌||◌, List, [], ◌∷◌, get_or, Option, Some, None, refl, sym, ◌∙◌, ap, subst, arith, bytes_eq}
-use Rattle.std.specs.Prelude.{codes, nat_eq}
-use Rattle.std.specs.List.{AllByRecursion, list_any}
-use Rattle.std.specs.Option.{option_map_or}
-use Rattle.std.proofs.lemmas.Bool.{true≢false, and_parts, eqb-true, ltb-true}
-use Rattle.std.proofs.lemmas.Slice.Eq.{bytes_eq-Decides}
-use Rattle.oc_base.specs.declared.format.Format.TheVariants.{Elf32, Coff32}
-use Rattle.oc_base.specs.declared.format.Word.TheVariants.{W32}
-use Rattle.oc_linking.specs.declared.terms.Kind.{Kind}
-use Rattle.oc_linking.specs.declared.terms.Kind.TheVariants.{Code, ReadOnly, Data, Zero, Init, Fini, Debug, Exception, Note}
-use Rattle.oc_neutral.specs.Coff.Family.{coff_gives, coff_family}
-use Rattle.oc_neutral.specs.Elf.Family.{elf_gives, elf_family}
-use Rattle.oc_neutral.specs.Building.{is_zero}
+use Rattle.std.specs.{Prelude.{codes, nat_eq}, List.{AllByRecursion, list_any}, Option.{option_map_or}}
+use Rattle.std.proofs.lemmas.{Bool.{true≢false, and_parts, eqb-true, ltb-true}, Slice.Eq.{bytes_eq-Decides}}
+use Rattle.oc_base.specs.{declared.format.Format.TheVariants.{Elf32, Coff32}, declared.format.Word.TheVariants.{W32}}
+use Rattle.oc_linking.specs.{declared.terms.Kind.{Kind}, declared.terms.Kind.TheVariants.{Code, ReadOnly, Data, Zero, Init, Fini, Debug, Exception, Note}}
+use Rattle.oc_neutral.specs.{Coff.Family.{coff_gives, coff_family}, Elf.Family.{elf_gives, elf_family}, Building.{is_zero}}
 use Rattle.oc_neutral.specs.declared.elf.TheConstants.{SHT_NOTE, SHT_INIT_ARRAY, SHT_FINI_ARRAY, SHT_X86_64_UNWIND, SHF_WRITE, SHF_ALLOC, SHF_EXECINSTR}
 use Rattle.oc_neutral.specs.declared.coff.TheConstants.{IMAGE_SCN_CNT_CODE, IMAGE_SCN_CNT_UNINITIALIZED_DATA, IMAGE_SCN_LNK_INFO, IMAGE_SCN_LNK_REMOVE, IMAGE_SCN_MEM_EXECUTE, IMAGE_SCN_MEM_WRITE}
 use Rattle.oc_neutral.specs.KindRules.{first_rule, begins, has, kind_number, same_kind}
 use Rattle.oc_neutral.specs.Elf.Kinds.{carried_types, is_carried_type, is_unwind_name, is_debug_name, elf_kind, elf_tag_type, elf_tag_flags, is_nobits_tag}
-use Rattle.oc_neutral.specs.Coff.Kinds.{coff_kind, coff_tag}
+use Rattle.oc_neutral.specs.{Coff.Kinds.{coff_kind, coff_tag}, HomeNames.{is_home}}
 use Rattle.oc_neutral.specs.Coff.Kinds as coff
-use Rattle.oc_neutral.specs.HomeNames.{is_home}
 use Rattle.oc_target.specs.Meets.{IsReadAs}
 use Rattle.oc_target.proofs.MeetsParts.{any_passes}
 use Rattle.oc_neutral.proofs.Positions.{each_at}

@@ -1,57 +1,31 @@
 -- Every object that is ready for Mach-O meets what its writer uses.
 use Rattle.std.proofs.Common.{◌≡◌, ℕ, zero, suc, ◌+◌, ◌^◌, ◌<◌, ◌≤◌, Bool, true, false, cond, ◌||◌, ◌&&◌, List, [], ◌∷◌, length, map, Option, Some, None, refl, sym, ◌∙◌, ap, subst, arith}
-use Rattle.std.specs.Prelude.{slice_get, nat_eq, nat_lt, nat_le, is_none, is_err}
-use Rattle.std.specs.Option.{option_map, option_map_or}
-use Rattle.std.proofs.lemmas.Bool.{true≢false, ltb-true, or_parts}
-use Rattle.std.proofs.lemmas.Bool.Decides.{nat_tests}
-use Rattle.std.proofs.lemmas.Option.{none-some, same_Some}
-use Rattle.oc_base.specs.Formats.{word_for}
-use Rattle.oc_base.specs.declared.format.Format.{Format}
-use Rattle.oc_base.specs.declared.format.Format.TheVariants.{Mac32, Mac64}
+use Rattle.std.specs.{Prelude.{slice_get, nat_eq, nat_lt, nat_le, is_none, is_err}, Option.{option_map, option_map_or}}
+use Rattle.std.proofs.lemmas.{Bool.{true≢false, ltb-true, or_parts}, Bool.Decides.{nat_tests}, Option.{none-some, same_Some}}
+use Rattle.oc_base.specs.{Formats.{word_for}, declared.format.Format.{Format}, declared.format.Format.TheVariants.{Mac32, Mac64}}
 use Rattle.oc_base.specs.declared.format.Word.TheVariants.{W32, W64}
-use Rattle.oc_linking.specs.declared.terms.Width.TheVariants.{Four}
-use Rattle.oc_linking.specs.declared.terms.Kind.{Kind}
-use Rattle.oc_linking.specs.declared.terms.Kind.TheVariants.{ReadOnly, Zero}
+use Rattle.oc_linking.specs.{declared.terms.Width.TheVariants.{Four}, declared.terms.Kind.{Kind}, declared.terms.Kind.TheVariants.{ReadOnly, Zero}}
 use Rattle.oc_linking.specs.declared.terms.Hint.TheVariants.{Plain}
 use Rattle.oc_linking.specs.declared.terms.Less.TheVariants as less
 use Rattle.oc_linking.specs.declared.terms.Fallback.TheVariants as fallback
 use Rattle.oc_algebra.specs.Fields.{to_field_of}
 use Rattle.oc_chains.specs.Lists.{list_of}
-use Rattle.oc_neutral.specs.Family.{IsMach, Family}
-use Rattle.oc_neutral.specs.declared.section.Section.{Section}
-use Rattle.oc_neutral.specs.declared.symbol.Symbol.{Symbol}
-use Rattle.oc_neutral.specs.declared.reloc.Reloc.{Reloc}
-use Rattle.oc_neutral.specs.Families.{family_of, container_of, section_range}
-use Rattle.oc_neutral.specs.Relocated.{is_relocated}
-use Rattle.oc_neutral.specs.Mach.Family.{mach_family, mach_symbol_count}
-use Rattle.oc_target.specs.Fitted.{IsFitted}
-use Rattle.oc_neutral.specs.HomeNames.{is_home, output_names}
-use Rattle.oc_neutral.specs.Invariants.{HasItsBytes, IsAlign, IsSymbol, IsBinding}
-use Rattle.oc_neutral.specs.Mach.Kinds.{segment_of, section_of, is_zerofill_tag}
-use Rattle.oc_target.specs.MachMeets.{MachSection, MachSymbol, IsWrittenDifference, MachReloc, FittedMeetsMach}
-use Rattle.oc_neutral.specs.Mach.Relocs.{MachRow, length_of, mach_entries, entry_among}
-use Rattle.oc_target.specs.Meets.{has_calls, MeetsReloc, HoldsAddend}
-use Rattle.oc_neutral.specs.Objects.{Object, reloc_among, reloc_at}
-use Rattle.oc_shows.specs.Readable.{AreZeros}
-use Rattle.oc_neutral.specs.RelocTables.{rows_of}
-use Rattle.oc_neutral.specs.Rows.{Row}
-use Rattle.oc_neutral.specs.Shifts.{field_shift, written_shift}
-use Rattle.oc_neutral.specs.Spelling.{written_row}
-use Rattle.oc_neutral.specs.Stored.{is_stored}
+use Rattle.oc_neutral.specs.{Family.{IsMach, Family}, declared.section.Section.{Section}, declared.symbol.Symbol.{Symbol}, declared.reloc.Reloc.{Reloc}}
+use Rattle.oc_neutral.specs.{Families.{family_of, container_of, section_range}, Relocated.{is_relocated}, Mach.Family.{mach_family, mach_symbol_count}}
+use Rattle.oc_neutral.specs.{HomeNames.{is_home, output_names}, Invariants.{HasItsBytes, IsAlign, IsSymbol, IsBinding}}
+use Rattle.oc_neutral.specs.{Mach.Kinds.{segment_of, section_of, is_zerofill_tag}, Mach.Relocs.{MachRow, length_of, mach_entries, entry_among}}
+use Rattle.oc_neutral.specs.{Objects.{Object, reloc_among, reloc_at}, RelocTables.{rows_of}, Rows.{Row}, Shifts.{field_shift, written_shift}}
+use Rattle.oc_neutral.specs.{Spelling.{written_row}, Stored.{is_stored}}
 use Rattle.oc_neutral.specs.TargetRelocations.{taken_end, fixed_end, is_symbol, lacks_difference, is_empty, has_empty_end, spot_of, reloc_conditions}
-use Rattle.oc_neutral.specs.TargetSections.{section_conditions}
-use Rattle.oc_neutral.specs.TargetSymbols.{bounded, is_common_form, is_weak_form, symbol_conditions}
-use Rattle.oc_neutral.proofs.Formats.{of_mach}
+use Rattle.oc_neutral.specs.{TargetSections.{section_conditions}, TargetSymbols.{bounded, is_common_form, is_weak_form, symbol_conditions}}
+use Rattle.oc_target.specs.{Fitted.{IsFitted}, MachMeets.{MachSection, MachSymbol, IsWrittenDifference, MachReloc, FittedMeetsMach}}
+use Rattle.oc_target.specs.Meets.{has_calls, MeetsReloc, HoldsAddend}
+use Rattle.oc_shows.specs.Readable.{AreZeros}
+use Rattle.oc_neutral.proofs.{Formats.{of_mach}, Positions.{each_at, images_same}, ShiftLemmas.{four_bytes_hold}}
 use Rattle.oc_target.proofs.MeetsConditions.{AreMet, not_below, below_length, section_count_met, section_met, symbol_met, reloc_met}
-use Rattle.oc_target.proofs.MeetsCounts.{symbols_bounded, bounded_object}
-use Rattle.oc_target.proofs.MeetsGroups.{no_groups}
-use Rattle.oc_target.proofs.MeetsMachKinds.{IsMachTag, mach_zero, mach_named}
-use Rattle.oc_target.proofs.MeetsNames.{needed_there}
-use Rattle.oc_target.proofs.MeetsParts.{all_bytes, positive, power, is_something, uncut, steady, taken_alike}
-use Rattle.oc_target.proofs.MeetsRelocs.{no_error, reloc_meets}
-use Rattle.oc_target.proofs.MeetsRows.{of_table}
-use Rattle.oc_neutral.proofs.Positions.{each_at, images_same}
-use Rattle.oc_neutral.proofs.ShiftLemmas.{four_bytes_hold}
+use Rattle.oc_target.proofs.{MeetsCounts.{symbols_bounded, bounded_object}, MeetsGroups.{no_groups}, MeetsMachKinds.{IsMachTag, mach_zero, mach_named}}
+use Rattle.oc_target.proofs.{MeetsNames.{needed_there}, MeetsParts.{all_bytes, positive, power, is_something, uncut, steady, taken_alike}}
+use Rattle.oc_target.proofs.{MeetsRelocs.{no_error, reloc_meets}, MeetsRows.{of_table}}
 
 -- the family of such a format
 mach_whole : (format : Format) → container_of format ≡ IsMach → family_of format ≡ mach_family (family_of format).word

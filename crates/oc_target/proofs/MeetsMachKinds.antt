@@ -1,21 +1,14 @@
 -- What names and tags that go with a kind say in Mach-O and in OMF: the format's own rule gives the kind back.
 use Rattle.std.proofs.Common.{◌≡◌, ℕ, suc, ◌+◌, ◌^◌, ◌<◌, ◌≤◌, Bool, true, false, cond, not, ◌&&◌, ◌||◌, List, [], ◌∷◌, ◌++◌, length, Some, refl, sym, ◌∙◌, ap, subst, arith, bytes_eq}
-use Rattle.std.specs.Prelude.{codes, decimal, nat_eq, take, drop}
-use Rattle.std.specs.List.{list_any, before_first, after_first, position_or_len}
-use Rattle.std.proofs.lemmas.Bool.{true≢false, and_parts, eqb-true, leb-true, ltb-true}
-use Rattle.std.proofs.lemmas.Fmt.{length-decimal-le}
-use Rattle.std.proofs.lemmas.Slice.Eq.{bytes_eq-Decides}
-use Rattle.oc_base.specs.declared.format.Format.TheVariants.{Mac32, Omf}
-use Rattle.oc_base.specs.declared.format.Word.TheVariants.{W32}
-use Rattle.oc_linking.specs.declared.terms.Kind.{Kind}
-use Rattle.oc_linking.specs.declared.terms.Kind.TheVariants.{Code, ReadOnly, Data, Zero, Init, Fini, Debug, Exception, Note}
-use Rattle.oc_neutral.specs.Mach.Family.{mach_gives, mach_family, numbered_name}
-use Rattle.oc_neutral.specs.Omf.Family.{omf_family}
+use Rattle.std.specs.{Prelude.{codes, decimal, nat_eq, take, drop}, List.{list_any, before_first, after_first, position_or_len}}
+use Rattle.std.proofs.lemmas.{Bool.{true≢false, and_parts, eqb-true, leb-true, ltb-true}, Fmt.{length-decimal-le}, Slice.Eq.{bytes_eq-Decides}}
+use Rattle.oc_base.specs.{declared.format.Format.TheVariants.{Mac32, Omf}, declared.format.Word.TheVariants.{W32}}
+use Rattle.oc_linking.specs.{declared.terms.Kind.{Kind}, declared.terms.Kind.TheVariants.{Code, ReadOnly, Data, Zero, Init, Fini, Debug, Exception, Note}}
+use Rattle.oc_neutral.specs.{Mach.Family.{mach_gives, mach_family, numbered_name}, Omf.Family.{omf_family}}
 use Rattle.oc_neutral.specs.declared.mach.TheConstants.{S_MOD_INIT_FUNC_POINTERS, S_MOD_TERM_FUNC_POINTERS, S_ATTR_SOME_INSTRUCTIONS, S_ATTR_PURE_INSTRUCTIONS}
 use Rattle.oc_neutral.specs.KindRules.{has, same_kind}
 use Rattle.oc_neutral.specs.Mach.Kinds.{is_comma, mach_name, segment_of, section_of, type_of, is_read_type, mach_kind, mach_tag, is_zerofill_tag}
-use Rattle.oc_neutral.specs.Omf.Kinds.{omf_kind, omf_class, omf_tag}
-use Rattle.oc_neutral.specs.HomeNames.{home_of, is_at, is_home}
+use Rattle.oc_neutral.specs.{Omf.Kinds.{omf_kind, omf_class, omf_tag}, HomeNames.{home_of, is_at, is_home}}
 use Rattle.oc_target.specs.Meets.{IsReadAs}
 use Rattle.oc_target.proofs.MeetsKinds.{once, kind_is, one_of, rule_told, told_alone, read_same}
 

@@ -1,31 +1,17 @@
 -- The names that writers make up, and the sections that mac64 has symbols for.
 use Rattle.std.proofs.Common.{◌≡◌, ℕ, zero, suc, ◌+◌, ◌^◌, ◌<◌, true, false, not, ◌&&◌, ◌||◌, List, [], ◌∷◌, length, map, Some, refl, sym, ◌∙◌, ap, subst, arith}
-use Rattle.std.specs.Prelude.{slice_get, nat_eq}
-use Rattle.std.specs.Int.Digits.{digits_of}
-use Rattle.std.specs.List.{range_with_len, enumerate_from}
-use Rattle.std.proofs.lemmas.Bool.{true≢false, and_parts, eqb-true, ne_eqb}
-use Rattle.std.proofs.lemmas.Fmt.{decimal-digits_of}
-use Rattle.std.proofs.lemmas.Map.Keys.{any_passes_from_place}
+use Rattle.std.specs.{Prelude.{slice_get, nat_eq}, Int.Digits.{digits_of}, List.{range_with_len, enumerate_from}}
+use Rattle.std.proofs.lemmas.{Bool.{true≢false, and_parts, eqb-true, ne_eqb}, Fmt.{decimal-digits_of}, Map.Keys.{any_passes_from_place}}
 use Rattle.oc_base.specs.declared.format.Format.TheVariants.{Mac64}
 use Rattle.oc_linking.specs.declared.terms.Less.{Less}
 use Rattle.oc_linking.specs.declared.terms.Less.TheVariants as less
-use Rattle.oc_chains.specs.declared.field.Field.{Field}
-use Rattle.oc_chains.specs.Lists.{Lists, list_of}
-use Rattle.oc_neutral.specs.KindRules.{has_nul}
-use Rattle.oc_neutral.specs.declared.section.Section.{Section}
-use Rattle.oc_neutral.specs.declared.reloc.Target.{Target}
-use Rattle.oc_neutral.specs.declared.reloc.Target.TheVariants as target
-use Rattle.oc_neutral.specs.declared.reloc.Reloc.{Reloc}
-use Rattle.oc_neutral.specs.Invariants.{IsLessThere, IsNormal, IsThere}
-use Rattle.oc_neutral.specs.Normal.{takes_section}
-use Rattle.oc_neutral.specs.Objects.{Object, reloc_at}
-use Rattle.oc_neutral.specs.Relocated.{stays}
+use Rattle.oc_chains.specs.{declared.field.Field.{Field}, Lists.{Lists, list_of}}
+use Rattle.oc_neutral.specs.{KindRules.{has_nul}, declared.section.Section.{Section}, declared.reloc.Target.{Target}, declared.reloc.Reloc.{Reloc}}
+use Rattle.oc_neutral.specs.{Invariants.{IsLessThere, IsNormal, IsThere}, Normal.{takes_section}, Objects.{Object, reloc_at}, Relocated.{stays}}
 use Rattle.oc_neutral.specs.Mach.SectionSymbols.{section_symbol_name, names_section, any_names, needs_section_symbol, needed_sections}
-use Rattle.oc_neutral.specs.Mach.SelfReferences.{is_section, is_long_distance}
-use Rattle.oc_neutral.specs.Stored.{is_stored}
-use Rattle.oc_target.proofs.MeetsConditions.{below_length, field_found}
-use Rattle.oc_target.proofs.MeetsKinds.{one_of}
-use Rattle.oc_target.proofs.MeetsRelocs.{held_below}
+use Rattle.oc_neutral.specs.{Mach.SelfReferences.{is_section, is_long_distance}, Stored.{is_stored}}
+use Rattle.oc_neutral.specs.declared.reloc.Target.TheVariants as target
+use Rattle.oc_target.proofs.{MeetsConditions.{below_length, field_found}, MeetsKinds.{one_of}, MeetsRelocs.{held_below}}
 use Rattle.oc_target.proofs.MeetsStrings.{stands_filter, stands_enumerated}
 
 -- ... names

@@ -1,40 +1,20 @@
 -- Every object that is ready for OMF meets what its writer uses.
 use Rattle.std.proofs.Common.{◌≡◌, ℕ, zero, suc, ◌+◌, false, ◌&&◌, length, Option, Some, None, refl, sym, ◌∙◌, ap, subst}
-use Rattle.std.specs.Prelude.{slice_get, nat_le, nat_lt, not, count_by, find, is_err}
-use Rattle.std.specs.Option.{unwrap_or}
-use Rattle.std.proofs.lemmas.Bool.{true≢false}
-use Rattle.std.proofs.lemmas.Option.{none-some, same_Some}
-use Rattle.oc_base.specs.declared.format.Format.TheVariants.{Omf}
-use Rattle.oc_base.specs.declared.format.Word.TheVariants.{W32}
+use Rattle.std.specs.{Prelude.{slice_get, nat_le, nat_lt, not, count_by, find, is_err}, Option.{unwrap_or}}
+use Rattle.std.proofs.lemmas.{Bool.{true≢false}, Option.{none-some, same_Some}}
+use Rattle.oc_base.specs.{declared.format.Format.TheVariants.{Omf}, declared.format.Word.TheVariants.{W32}}
 use Rattle.oc_linking.specs.declared.terms.Width.TheVariants.{Four}
 use Rattle.oc_algebra.specs.Fields.{to_field_of}
-use Rattle.oc_neutral.specs.Bindings.{is_external}
-use Rattle.oc_neutral.specs.Powers.{natural_align}
-use Rattle.oc_neutral.specs.Omf.Family.{omf_aligns}
-use Rattle.oc_neutral.specs.declared.section.Section.{Section}
-use Rattle.oc_neutral.specs.declared.symbol.Symbol.{Symbol}
-use Rattle.oc_neutral.specs.declared.reloc.Reloc.{Reloc}
-use Rattle.oc_neutral.specs.Alignments.{output_align}
-use Rattle.oc_target.specs.Fitted.{fitted_binding, IsFitted}
-use Rattle.oc_target.specs.Meets.{MeetsReloc}
-use Rattle.oc_neutral.specs.Objects.{Object, reloc_at}
-use Rattle.oc_target.specs.OmfMeets.{OmfSection, OmfSymbol, OmfReloc, FittedMeetsOmf}
-use Rattle.oc_neutral.specs.Omf.Relocs.{FixupFrame, ByFlat, ByTarget, BySelf, fixup_row}
-use Rattle.oc_neutral.specs.RelocTables.{rows_of}
-use Rattle.oc_neutral.specs.Rows.{Row}
+use Rattle.oc_neutral.specs.{Bindings.{is_external}, Powers.{natural_align}, Omf.Family.{omf_aligns}, declared.section.Section.{Section}}
+use Rattle.oc_neutral.specs.{declared.symbol.Symbol.{Symbol}, declared.reloc.Reloc.{Reloc}, Alignments.{output_align}, Objects.{Object, reloc_at}}
+use Rattle.oc_neutral.specs.{Omf.Relocs.{FixupFrame, ByFlat, ByTarget, BySelf, fixup_row}, RelocTables.{rows_of}, Rows.{Row}}
 use Rattle.oc_neutral.specs.TargetSections.{is_debug_kept, section_conditions}
 use Rattle.oc_neutral.specs.TargetSymbols.{is_absolute_form, is_common_form, is_weak_form, symbol_conditions}
-use Rattle.oc_target.proofs.MeetsCoff.{natural, align_same, fitted_common}
-use Rattle.oc_target.proofs.MeetsConditions.{not_below, section_count_met, section_met, symbol_met}
-use Rattle.oc_target.proofs.MeetsCounts.{symbols_bounded, bounded_object}
-use Rattle.oc_target.proofs.MeetsGroups.{no_groups}
-use Rattle.oc_target.proofs.MeetsMach.{alone}
-use Rattle.oc_target.proofs.MeetsMachKinds.{IsOmfTag, omf_named}
-use Rattle.oc_target.proofs.MeetsParts.{taken_alike}
-use Rattle.oc_target.proofs.MeetsRelocs.{no_error, reloc_meets}
-use Rattle.oc_target.proofs.MeetsRows.{found_there, of_table}
-use Rattle.oc_neutral.proofs.Positions.{each_at}
-use Rattle.oc_neutral.proofs.ShiftLemmas.{four_bytes_hold}
+use Rattle.oc_target.specs.{Fitted.{fitted_binding, IsFitted}, Meets.{MeetsReloc}, OmfMeets.{OmfSection, OmfSymbol, OmfReloc, FittedMeetsOmf}}
+use Rattle.oc_target.proofs.{MeetsCoff.{natural, align_same, fitted_common}, MeetsConditions.{not_below, section_count_met, section_met, symbol_met}}
+use Rattle.oc_target.proofs.{MeetsCounts.{symbols_bounded, bounded_object}, MeetsGroups.{no_groups}, MeetsMach.{alone}, MeetsMachKinds.{IsOmfTag, omf_named}}
+use Rattle.oc_target.proofs.{MeetsParts.{taken_alike}, MeetsRelocs.{no_error, reloc_meets}, MeetsRows.{found_there, of_table}}
+use Rattle.oc_neutral.proofs.{Positions.{each_at}, ShiftLemmas.{four_bytes_hold}}
 
 -- an alignment that OMF leaves as it is, is one of its own
 own_align : (align : ℕ) → output_align Omf align ≡ align → (k : ℕ) × (slice_get omf_aligns k ≡ Some align)

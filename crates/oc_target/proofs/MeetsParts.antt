@@ -1,34 +1,19 @@
 -- Parts of what families meet: names, symbols that are placed, and rows that take no section.
 use Rattle.std.proofs.Common.{◌≡◌, ℕ, zero, suc, ◌+◌, ◌^◌, ◌<◌, ◌≤◌, Bool, true, false, cond, ◌&&◌, ◌||◌, List, [], ◌∷◌, length, Option, Some, None, inl, inr, refl, sym, ◌∙◌, ap, arith, bytes_eq}
-use Rattle.std.specs.Prelude.{slice_get, nat_eq, pos, is_none}
-use Rattle.std.specs.List.{list_any}
-use Rattle.std.specs.Option.{option_map_or, option_and_then}
-use Rattle.std.proofs.lemmas.Bool.{true≢false, and_parts, eqb-true, cases_lt, or_parts, not-false}
+use Rattle.std.specs.{Prelude.{slice_get, nat_eq, pos, is_none}, List.{list_any}, Option.{option_map_or, option_and_then}}
+use Rattle.std.proofs.lemmas.{Bool.{true≢false, and_parts, eqb-true, cases_lt, or_parts, not-false}, Slice.Eq.{bytes_eq-Decides}}
 use Rattle.std.proofs.Math.Pow.{pow_mono}
-use Rattle.std.proofs.lemmas.Slice.Eq.{bytes_eq-Decides}
-use Rattle.oc_base.specs.declared.format.Format.{Format}
-use Rattle.oc_base.specs.declared.format.Format.TheVariants.{Mac64}
-use Rattle.oc_linking.specs.declared.terms.Kind.{Kind}
-use Rattle.oc_linking.specs.declared.terms.Kind.TheVariants.{Code, ReadOnly, Data, Zero, Init, Fini, Debug, Exception, Note}
-use Rattle.oc_linking.specs.declared.terms.Less.{Less}
+use Rattle.oc_base.specs.{declared.format.Format.{Format}, declared.format.Format.TheVariants.{Mac64}}
+use Rattle.oc_linking.specs.{declared.terms.Kind.{Kind}, declared.terms.Kind.TheVariants.{Code, ReadOnly, Data, Zero, Init, Fini, Debug, Exception, Note}}
+use Rattle.oc_linking.specs.{declared.terms.Less.{Less}, declared.terms.Base.{Base}, declared.terms.Base.TheVariants.{Address, Slot, GotBase, HomeNumber}}
 use Rattle.oc_linking.specs.declared.terms.Fallback.TheVariants as fallback
-use Rattle.oc_linking.specs.declared.terms.Base.{Base}
-use Rattle.oc_linking.specs.declared.terms.Base.TheVariants.{Address, Slot, GotBase, HomeNumber}
 use Rattle.oc_algebra.specs.declared.form.Form.{Form}
-use Rattle.oc_neutral.specs.Tests.{is_cut, is_steady, is_unsteady_name}
-use Rattle.oc_neutral.specs.KindRules.{has_nul}
-use Rattle.oc_neutral.specs.declared.section.Section.{Section}
-use Rattle.oc_neutral.specs.declared.symbol.Symbol.{Symbol}
-use Rattle.oc_neutral.specs.Building.{is_zero}
-use Rattle.oc_neutral.specs.Faces.{key_of}
-use Rattle.oc_neutral.specs.Invariants.{HasItsBytes, IsAlign}
-use Rattle.oc_neutral.specs.KeySymbols.{global_place, group_at, is_key_name, lies_in, has_key_symbol}
-use Rattle.oc_target.specs.Meets.{IsUncut, HasKeySymbol, IsSteadyAt, IsPower, IsTakenBy}
-use Rattle.oc_neutral.specs.Normal.{Place}
-use Rattle.oc_neutral.specs.Objects.{Object}
-use Rattle.oc_neutral.specs.Rows.{Row, Taken, TakesPlace, TakesSection, taken_of, same_taken, same_base, shift_of}
-use Rattle.oc_neutral.specs.Shifts.{written_shift}
+use Rattle.oc_neutral.specs.{Tests.{is_cut, is_steady, is_unsteady_name}, KindRules.{has_nul}, declared.section.Section.{Section}}
+use Rattle.oc_neutral.specs.{declared.symbol.Symbol.{Symbol}, Building.{is_zero}, Faces.{key_of}, Invariants.{HasItsBytes, IsAlign}}
+use Rattle.oc_neutral.specs.{KeySymbols.{global_place, group_at, is_key_name, lies_in, has_key_symbol}, Normal.{Place}, Objects.{Object}}
+use Rattle.oc_neutral.specs.{Rows.{Row, Taken, TakesPlace, TakesSection, taken_of, same_taken, same_base, shift_of}, Shifts.{written_shift}}
 use Rattle.oc_neutral.specs.TargetRelocations.{needs_slot}
+use Rattle.oc_target.specs.Meets.{IsUncut, HasKeySymbol, IsSteadyAt, IsPower, IsTakenBy}
 
 -- a number that is not 0
 pub positive : (n : ℕ) → nat_eq n 0 ≡ false → 0 < n

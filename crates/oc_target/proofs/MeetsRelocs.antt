@@ -1,37 +1,21 @@
 -- What each relocation of an object that is ready to be written meets.
 use Rattle.std.proofs.Common.{◌≡◌, ℕ, zero, suc, ◌<◌, Bool, true, false, not, ◌&&◌, List, [], ◌∷◌, length, Option, Some, None, Result, Ok, Err, refl, sym, ◌∙◌, ap, subst, arith}
-use Rattle.std.specs.Prelude.{slice_get, is_none, is_err}
-use Rattle.std.specs.List.{AllByRecursion}
-use Rattle.std.specs.Option.{option_map, option_map_or, option_and_then}
-use Rattle.std.proofs.lemmas.Bool.{true≢false, or_parts}
-use Rattle.std.proofs.lemmas.Option.{none-some}
-use Rattle.oc_base.specs.declared.format.Format.{Format}
-use Rattle.oc_base.specs.Formats.{word_for}
-use Rattle.oc_linking.specs.Fits.{bytes_of}
-use Rattle.oc_linking.specs.declared.terms.Value.TheVariants as value
-use Rattle.oc_linking.specs.declared.terms.Binding.{Binding}
-use Rattle.oc_linking.specs.declared.terms.Binding.TheVariants.{Local, Global, Undefined, Common, Weak}
+use Rattle.std.specs.{Prelude.{slice_get, is_none, is_err}, List.{AllByRecursion}, Option.{option_map, option_map_or, option_and_then}}
+use Rattle.std.proofs.lemmas.{Bool.{true≢false, or_parts}, Option.{none-some}}
+use Rattle.oc_base.specs.{declared.format.Format.{Format}, Formats.{word_for}}
+use Rattle.oc_linking.specs.{Fits.{bytes_of}, declared.terms.Binding.{Binding}, declared.terms.Binding.TheVariants.{Local, Global, Undefined, Common, Weak}}
 use Rattle.oc_linking.specs.Parts.{is_local}
-use Rattle.oc_chains.specs.declared.field.Field.{Field}
-use Rattle.oc_chains.specs.Lists.{Lists, list_of}
+use Rattle.oc_linking.specs.declared.terms.Value.TheVariants as value
+use Rattle.oc_chains.specs.{declared.field.Field.{Field}, Lists.{Lists, list_of}}
 use Rattle.oc_algebra.specs.Fields.{to_field_of}
-use Rattle.oc_neutral.specs.declared.section.Section.{Section}
-use Rattle.oc_neutral.specs.declared.symbol.Symbol.{Symbol}
-use Rattle.oc_neutral.specs.declared.reloc.Target.{Target}
-use Rattle.oc_neutral.specs.declared.reloc.Target.TheVariants as target
-use Rattle.oc_neutral.specs.declared.reloc.Reloc.{Reloc}
-use Rattle.oc_target.specs.Fitted.{IsFitted}
-use Rattle.oc_neutral.specs.Invariants.{IsHeld, IsHinted, IsNormal, IsObject, NamesOriginal}
-use Rattle.oc_target.specs.Meets.{MeetsReloc}
-use Rattle.oc_neutral.specs.Normal.{local_place, place_among}
-use Rattle.oc_neutral.specs.Objects.{Object, reloc_among, reloc_at}
-use Rattle.oc_neutral.specs.Rows.{Row}
-use Rattle.oc_neutral.specs.Spelling.{numbers_in, written_row}
+use Rattle.oc_neutral.specs.{declared.section.Section.{Section}, declared.symbol.Symbol.{Symbol}, declared.reloc.Target.{Target}, declared.reloc.Reloc.{Reloc}}
+use Rattle.oc_neutral.specs.{Invariants.{IsHeld, IsHinted, IsNormal, IsObject, NamesOriginal}, Normal.{local_place, place_among}}
+use Rattle.oc_neutral.specs.{Objects.{Object, reloc_among, reloc_at}, Rows.{Row}, Spelling.{numbers_in, written_row}}
 use Rattle.oc_neutral.specs.TargetRelocations.{is_local_number, is_nonlocal, is_homeless, is_target, needs_slot, needs_home, is_wrong_target, has_no_form, is_too_wide, spot_of, reloc_conditions}
-use Rattle.oc_target.proofs.MeetsConditions.{AreMet, field_found, reloc_met}
-use Rattle.oc_target.proofs.MeetsRows.{IsCallForm, row_means}
-use Rattle.oc_neutral.proofs.Positions.{each_at, there_at}
-use Rattle.oc_neutral.proofs.SortedFields.{found_held}
+use Rattle.oc_neutral.specs.declared.reloc.Target.TheVariants as target
+use Rattle.oc_target.specs.{Fitted.{IsFitted}, Meets.{MeetsReloc}}
+use Rattle.oc_target.proofs.{MeetsConditions.{AreMet, field_found, reloc_met}, MeetsRows.{IsCallForm, row_means}}
+use Rattle.oc_neutral.proofs.{Positions.{each_at, there_at}, SortedFields.{found_held}}
 
 -- a section in which a relocation is found has a list
 pub held_below : (k : ℕ) (lists : Lists Reloc) (at : ℕ) (r : Reloc) → reloc_among (list_of lists k) at ≡ Some r → k < length lists

@@ -1,27 +1,15 @@
 -- The string table of a COFF output has fewer than 2^31 bytes.
 use Rattle.std.proofs.Common.{◌≡◌, ℕ, zero, suc, ◌+◌, ◌*◌, ◌^◌, ◌<◌, ◌≤◌, Bool, true, false, cond, not, ◌&&◌, List, [], ◌∷◌, ◌++◌, length, refl, sym, ◌∙◌, ap, arith, length-append}
-use Rattle.std.specs.Prelude.{sum_by, codes, filter, flat_map, nat_eq}
-use Rattle.std.specs.List.{range_with_len}
-use Rattle.std.specs.Option.{option_map_or}
-use Rattle.std.proofs.lemmas.Bool.{and_parts, eqb-true}
-use Rattle.std.proofs.lemmas.List.Sums.{sum_by-cons, sum_by-append}
+use Rattle.std.specs.{Prelude.{sum_by, codes, filter, flat_map, nat_eq}, List.{range_with_len}, Option.{option_map_or}}
+use Rattle.std.proofs.lemmas.{Bool.{and_parts, eqb-true}, List.Sums.{sum_by-cons, sum_by-append}}
 use Rattle.oc_base.specs.declared.format.Format.{Format}
-use Rattle.oc_linking.specs.declared.terms.Binding.{Binding}
-use Rattle.oc_linking.specs.declared.terms.Binding.TheVariants.{Local, Global, Undefined, Common, Weak}
-use Rattle.oc_linking.specs.Parts.{is_local}
-use Rattle.oc_neutral.specs.declared.section.Section.{Section}
-use Rattle.oc_neutral.specs.declared.symbol.Symbol.{Symbol}
+use Rattle.oc_linking.specs.{declared.terms.Binding.{Binding}, declared.terms.Binding.TheVariants.{Local, Global, Undefined, Common, Weak}, Parts.{is_local}}
+use Rattle.oc_neutral.specs.{declared.section.Section.{Section}, declared.symbol.Symbol.{Symbol}}
 use Rattle.oc_neutral.specs.Coff.Strings.{is_long, is_tabled, has_default, default_name, defaults_of, names_where, key_strings, symbol_names, coff_strings}
-use Rattle.oc_target.specs.CoffMeets.{strings_of}
-use Rattle.oc_neutral.specs.Families.{family_of}
-use Rattle.oc_neutral.specs.HomeNames.{output_names}
-use Rattle.oc_neutral.specs.KeySymbols.{global_place, is_key_at, is_key}
-use Rattle.oc_target.specs.Meets.{text_sum}
-use Rattle.oc_neutral.specs.Normal.{Place}
-use Rattle.oc_neutral.specs.Objects.{Object}
+use Rattle.oc_neutral.specs.{Families.{family_of}, HomeNames.{output_names}, KeySymbols.{global_place, is_key_at, is_key}, Normal.{Place}, Objects.{Object}}
 use Rattle.oc_neutral.specs.WrittenSymbols.{is_written}
-use Rattle.oc_target.proofs.MeetsConditions.{own_names}
-use Rattle.oc_target.proofs.MeetsParts.{some_passes}
+use Rattle.oc_target.specs.{CoffMeets.{strings_of}, Meets.{text_sum}}
+use Rattle.oc_target.proofs.{MeetsConditions.{own_names}, MeetsParts.{some_passes}}
 use Rattle.oc_neutral.proofs.LeftObject.{sum_map}
 
 -- the bytes of a name with its NUL

@@ -1,29 +1,16 @@
 -- The names that have no room in a COFF output's entries are given to its string table.
 use Rattle.std.proofs.Common.{◌≡◌, ℕ, zero, suc, ◌+◌, ◌<◌, Bool, true, false, cond, not, ◌&&◌, List, [], ◌∷◌, ◌++◌, length, map, Option, Some, None, refl, sym, ◌∙◌, ap, subst, arith, length-append}
-use Rattle.std.specs.Prelude.{slice_get, nat_eq, codes, filter, flat_map}
-use Rattle.std.specs.List.{enumerate_from, range_with_len}
-use Rattle.std.specs.Cmp.Lexicographic.{pointwise}
+use Rattle.std.specs.{Prelude.{slice_get, nat_eq, codes, filter, flat_map}, List.{enumerate_from, range_with_len}, Cmp.Lexicographic.{pointwise}}
 use Rattle.std.specs.Option.{option_map, option_and_then}
-use Rattle.std.proofs.lemmas.Bool.{and_parts, lt-ltb}
-use Rattle.std.proofs.lemmas.Map.Keys.{any_passes_from_place}
-use Rattle.std.proofs.lemmas.Option.{none-some, same_Some, slice_get-map, slice_get_within}
-use Rattle.oc_base.specs.Strings.{is_given}
-use Rattle.oc_base.specs.declared.format.Format.{Format}
-use Rattle.oc_linking.specs.declared.terms.Fallback.{Fallback}
-use Rattle.oc_linking.specs.declared.terms.Binding.TheVariants.{Weak}
-use Rattle.oc_linking.specs.Parts.{is_local}
-use Rattle.oc_neutral.specs.declared.section.Section.{Section}
-use Rattle.oc_neutral.specs.declared.symbol.Symbol.{Symbol}
+use Rattle.std.proofs.lemmas.{Bool.{and_parts, lt-ltb}, Map.Keys.{any_passes_from_place}, Option.{none-some, same_Some, slice_get-map, slice_get_within}}
+use Rattle.oc_base.specs.{Strings.{is_given}, declared.format.Format.{Format}}
+use Rattle.oc_linking.specs.{declared.terms.Fallback.{Fallback}, declared.terms.Binding.TheVariants.{Weak}, Parts.{is_local}}
+use Rattle.oc_neutral.specs.{declared.section.Section.{Section}, declared.symbol.Symbol.{Symbol}}
 use Rattle.oc_neutral.specs.Coff.Strings.{is_long, is_tabled, has_default, default_name, defaults_of, names_where, key_strings, symbol_names, coff_strings}
+use Rattle.oc_neutral.specs.{Families.{family_of}, HomeNames.{output_names}, KeySymbols.{global_place, group_at, is_key_name, is_key_at, is_key}}
+use Rattle.oc_neutral.specs.{Normal.{Place}, Objects.{Object}, WrittenSymbols.{is_written}}
 use Rattle.oc_target.specs.CoffMeets.{strings_of}
-use Rattle.oc_neutral.specs.Families.{family_of}
-use Rattle.oc_neutral.specs.HomeNames.{output_names}
-use Rattle.oc_neutral.specs.KeySymbols.{global_place, group_at, is_key_name, is_key_at, is_key}
-use Rattle.oc_neutral.specs.Normal.{Place}
-use Rattle.oc_neutral.specs.Objects.{Object}
-use Rattle.oc_neutral.specs.WrittenSymbols.{is_written}
-use Rattle.oc_target.proofs.MeetsConditions.{own_names}
-use Rattle.oc_target.proofs.MeetsParts.{some_passes}
+use Rattle.oc_target.proofs.{MeetsConditions.{own_names}, MeetsParts.{some_passes}}
 use Rattle.oc_strings.proofs.GivenLemmas.{name_itself}
 
 -- ... members of lists

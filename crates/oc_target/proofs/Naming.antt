@@ -1,14 +1,10 @@
 -- The names of the sections that are left.
 use Rattle.std.proofs.Common.{◌≡◌, ℕ, ◌+◌, ◌<◌, List, [], ◌∷◌, map, length, Some, ap}
-use Rattle.std.specs.Prelude.{drop, slice_get, slice_index_or, None}
+use Rattle.std.specs.{Prelude.{drop, slice_get, slice_index_or, None}, List.{enumerate_from}}
 use Rattle.std.proofs.lemmas.Option.{slice_get-get_or}
 use Rattle.oc_linking.specs.declared.terms.Kind.TheVariants.{Code}
-use Rattle.std.specs.List.{enumerate_from}
 use Rattle.oc_base.specs.declared.format.Format.{Format}
-use Rattle.oc_neutral.specs.declared.section.Section.{Section}
-use Rattle.oc_neutral.specs.Objects.{Object}
-use Rattle.oc_neutral.specs.Relocated.{is_relocated}
-use Rattle.oc_neutral.specs.HomeNames.{wanted_name}
+use Rattle.oc_neutral.specs.{declared.section.Section.{Section}, Objects.{Object}, Relocated.{is_relocated}, HomeNames.{wanted_name}}
 use Rattle.oc_neutral.proofs.FieldLists.{drop_here}
 
 -- what sections from position k on are to be called, where these are those sections

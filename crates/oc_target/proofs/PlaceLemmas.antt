@@ -1,17 +1,12 @@
 -- Where the names of sections stand among the names that are given.
 use Rattle.std.proofs.Common.{◌≡◌, refl, ℕ, zero, suc, ◌+◌, ◌<◌, ◌≤◌, ◌&&◌, Bool, true, false, List, [], ◌∷◌, ◌++◌, map, Option, Some, None, ◌∙◌, ap, sym, get_or, arith}
-use Rattle.std.specs.Prelude.{slice_get, take, nat_lt, min, ◌^◌, ◌-◌}
-use Rattle.std.specs.Option.{option_map, option_map_or, option_and_then, unwrap_or}
-use Rattle.std.proofs.lemmas.Bool.{ltb-true, ltb-false, lt-ltb, le-ltb}
-use Rattle.std.proofs.lemmas.Option.{none-some, same_Some, slice_get-map}
+use Rattle.std.specs.{Prelude.{slice_get, take, nat_lt, min, ◌^◌, ◌-◌}, Option.{option_map, option_map_or, option_and_then, unwrap_or}}
+use Rattle.std.proofs.lemmas.{Bool.{ltb-true, ltb-false, lt-ltb, le-ltb}, Option.{none-some, same_Some, slice_get-map}}
 use Rattle.oc_base.specs.Strings.{table_place}
 use Rattle.oc_strings.specs.Tables.{capped, offset_of}
 use Rattle.oc_linking.specs.declared.terms.Value.{Value}
-use Rattle.oc_neutral.specs.Coff.Family.{is_far}
-use Rattle.oc_neutral.specs.Coff.Strings.{is_tabled, coff_strings, string_offset}
-use Rattle.oc_neutral.specs.Objects.{Object}
-use Rattle.oc_target.specs.Far.{lies_far_in}
-use Rattle.oc_target.specs.Places.{HasPlace, HavePlaces}
+use Rattle.oc_neutral.specs.{Coff.Family.{is_far}, Coff.Strings.{is_tabled, coff_strings, string_offset}, Objects.{Object}}
+use Rattle.oc_target.specs.{Far.{lies_far_in}, Places.{HasPlace, HavePlaces}}
 use Rattle.oc_neutral.proofs.FieldLists.{take_here}
 
 -- a place stays where more is given

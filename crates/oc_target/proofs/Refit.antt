@@ -1,24 +1,16 @@
 -- Symbols whose commons get a target's alignments are worth the same, export the same and have the same names.
 use Rattle.std.proofs.Common.{◌≡◌, ℕ, Bool, true, false, cond, List, [], ◌∷◌, map, Option, Some, None, refl, ◌∙◌, ap}
 use mathlib.Core.Path.{fun_ext}
-use Rattle.std.specs.Prelude.{eqb, slice_get, bytes_eq}
-use Rattle.std.specs.Option.{option_map, option_map_or, unwrap_or}
+use Rattle.std.specs.{Prelude.{eqb, slice_get, bytes_eq}, Option.{option_map, option_map_or, unwrap_or}}
 use Rattle.std.proofs.lemmas.Option.{slice_get-map}
-use Rattle.oc_base.specs.declared.format.Format.{Format}
-use Rattle.oc_base.specs.declared.format.Word.{Word}
-use Rattle.oc_linking.specs.declared.terms.Binding.{Binding}
-use Rattle.oc_linking.specs.declared.terms.Binding.TheVariants.{Local, Global, Undefined, Common, Weak}
-use Rattle.oc_linking.specs.declared.terms.Fallback.{Fallback}
-use Rattle.oc_linking.specs.declared.terms.Fallback.TheVariants as fallback
-use Rattle.oc_linking.specs.Numbers.{or_else}
-use Rattle.oc_linking.specs.Parts as parts
-use Rattle.oc_linking.specs.Placing.{Site, Placement, Outside, nowhere, is_fallback_gone}
+use Rattle.oc_base.specs.{declared.format.Format.{Format}, declared.format.Word.{Word}}
+use Rattle.oc_linking.specs.{declared.terms.Binding.{Binding}, declared.terms.Binding.TheVariants.{Local, Global, Undefined, Common, Weak}}
+use Rattle.oc_linking.specs.{declared.terms.Fallback.{Fallback}, Numbers.{or_else}, Placing.{Site, Placement, Outside, nowhere, is_fallback_gone}}
 use Rattle.oc_linking.specs.Values.{Valued, worthless, numbered, strong_site, fallback_site, site_of, value_of, values}
-use Rattle.oc_linking.specs.Linking.{Address, export_at, export_of, exports}
-use Rattle.oc_linking.specs.Faithful.{sort_of, names_of}
-use Rattle.oc_neutral.specs.declared.symbol.Symbol.{Symbol}
-use Rattle.oc_neutral.specs.Alignments.{common_align}
-use Rattle.oc_neutral.specs.Faces.{number_of, shown_fallback, shown_binding, shown_symbol}
+use Rattle.oc_linking.specs.{Linking.{Address, export_at, export_of, exports}, Faithful.{sort_of, names_of}}
+use Rattle.oc_linking.specs.declared.terms.Fallback.TheVariants as fallback
+use Rattle.oc_linking.specs.Parts as parts
+use Rattle.oc_neutral.specs.{declared.symbol.Symbol.{Symbol}, Alignments.{common_align}, Faces.{number_of, shown_fallback, shown_binding, shown_symbol}}
 use Rattle.oc_target.specs.Fitted.{fitted_binding, fitted_symbol}
 
 -- a symbol that is shown, in a target

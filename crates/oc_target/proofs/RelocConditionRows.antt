@@ -1,45 +1,24 @@
 -- What is refused of relocations, worked out by hand from the rules for each target (our profile; the standards' tables).
 use Rattle.std.proofs.Common.{◌≡◌, ℕ, zero, suc, ◌^◌, true, false, List, [], ◌∷◌, Option, Some, None, refl}
 use Rattle.std.specs.Prelude.{ℤ, pos, neg_ℤ, codes, map}
-use Rattle.oc_base.specs.declared.format.Format.{Format}
-use Rattle.oc_base.specs.declared.format.Format.TheVariants.{Elf32, Elf64, Coff32, Coff64, Mac32, Mac64, Omf}
-use Rattle.oc_base.specs.declared.code.Code.{Code}
-use Rattle.oc_base.specs.declared.code.Code.TheVariants.{TargetKind, NoForm, OffsetTooBig, EmptyEnd, AddendTooWide}
-use Rattle.oc_base.specs.declared.fault.Phase.TheVariants.{TargetRelocation}
-use Rattle.oc_base.specs.declared.fault.Fault.{Fault}
-use Rattle.oc_linking.specs.declared.terms.Width.{Width}
-use Rattle.oc_linking.specs.declared.terms.Width.TheVariants.{One, Two, Four, Eight}
-use Rattle.oc_linking.specs.declared.terms.Check.{Check}
-use Rattle.oc_linking.specs.declared.terms.Check.TheVariants.{Wrap, Signed, Unsigned, Either}
-use Rattle.oc_linking.specs.declared.terms.Hint.TheVariants.{Plain}
-use Rattle.oc_linking.specs.declared.terms.Kind.TheVariants.{Code as CodeKind}
-use Rattle.oc_linking.specs.declared.terms.Mark.TheVariants.{NoType}
-use Rattle.oc_linking.specs.declared.terms.Visibility.TheVariants.{Default}
+use Rattle.oc_base.specs.{declared.format.Format.{Format}, declared.format.Format.TheVariants.{Elf32, Elf64, Coff32, Coff64, Mac32, Mac64, Omf}}
+use Rattle.oc_base.specs.{declared.code.Code.{Code}, declared.code.Code.TheVariants.{TargetKind, NoForm, OffsetTooBig, EmptyEnd, AddendTooWide}}
+use Rattle.oc_base.specs.{declared.fault.Phase.TheVariants.{TargetRelocation}, declared.fault.Fault.{Fault}}
+use Rattle.oc_linking.specs.{declared.terms.Width.{Width}, declared.terms.Width.TheVariants.{One, Two, Four, Eight}, declared.terms.Check.{Check}}
+use Rattle.oc_linking.specs.{declared.terms.Check.TheVariants.{Wrap, Signed, Unsigned, Either}, declared.terms.Hint.TheVariants.{Plain}}
+use Rattle.oc_linking.specs.{declared.terms.Kind.TheVariants.{Code as CodeKind}, declared.terms.Mark.TheVariants.{NoType}}
+use Rattle.oc_linking.specs.{declared.terms.Visibility.TheVariants.{Default}, declared.terms.Binding.{Binding}}
+use Rattle.oc_linking.specs.{declared.terms.Binding.TheVariants.{Local, Global, Undefined, Common, Weak}, declared.terms.Base.{Base}}
+use Rattle.oc_linking.specs.{declared.terms.Base.TheVariants.{Address, Slot, GotBase, HomeNumber}, declared.terms.Less.{Less}, Fits.{bytes_of}}
 use Rattle.oc_linking.specs.declared.terms.Value.TheVariants as value
 use Rattle.oc_linking.specs.declared.terms.Fallback.TheVariants as fallback
-use Rattle.oc_linking.specs.declared.terms.Binding.{Binding}
-use Rattle.oc_linking.specs.declared.terms.Binding.TheVariants.{Local, Global, Undefined, Common, Weak}
-use Rattle.oc_linking.specs.declared.terms.Base.{Base}
-use Rattle.oc_linking.specs.declared.terms.Base.TheVariants.{Address, Slot, GotBase, HomeNumber}
-use Rattle.oc_linking.specs.declared.terms.Less.{Less}
 use Rattle.oc_linking.specs.declared.terms.Less.TheVariants as less
-use Rattle.oc_algebra.specs.declared.form.Form.{Form}
-use Rattle.oc_algebra.specs.Fields.{to_field_of, field_for}
-use Rattle.oc_algebra.specs.Residues.{residue_of, reduced_number}
-use Rattle.oc_linking.specs.Fits.{bytes_of}
-use Rattle.oc_chains.specs.declared.field.Field.{Field}
-use Rattle.oc_chains.specs.Fields.{field}
-use Rattle.oc_chains.specs.Lists.{Lists}
-use Rattle.oc_neutral.specs.declared.section.Section.{Section}
-use Rattle.oc_neutral.specs.declared.symbol.Symbol.{Symbol}
-use Rattle.oc_neutral.specs.declared.reloc.Target.{Target}
-use Rattle.oc_neutral.specs.declared.reloc.Target.TheVariants as target
-use Rattle.oc_neutral.specs.declared.reloc.Reloc.{Reloc}
-use Rattle.oc_neutral.specs.Objects.{Object}
-use Rattle.oc_neutral.specs.Spelling.{written_row}
-use Rattle.oc_neutral.specs.Shifts.{field_shift}
-use Rattle.oc_neutral.specs.Stored.{is_stored, stored_constant}
+use Rattle.oc_algebra.specs.{declared.form.Form.{Form}, Fields.{to_field_of, field_for}, Residues.{residue_of, reduced_number}}
+use Rattle.oc_chains.specs.{declared.field.Field.{Field}, Fields.{field}, Lists.{Lists}}
+use Rattle.oc_neutral.specs.{declared.section.Section.{Section}, declared.symbol.Symbol.{Symbol}, declared.reloc.Target.{Target}, declared.reloc.Reloc.{Reloc}}
+use Rattle.oc_neutral.specs.{Objects.{Object}, Spelling.{written_row}, Shifts.{field_shift}, Stored.{is_stored, stored_constant}}
 use Rattle.oc_neutral.specs.TargetRelocations.{reloc_conditions}
+use Rattle.oc_neutral.specs.declared.reloc.Target.TheVariants as target
 use Rattle.oc_target.specs.Expressible.{first_unfit_relocation}
 
 -- a section of so many bytes with that number in the input; what its bytes are is not looked at

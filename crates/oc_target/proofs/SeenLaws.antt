@@ -1,34 +1,17 @@
 -- What is seen of a fitted object that was written is an object, and looks like the one that was written.
 use Rattle.std.proofs.Common.{◌≡◌, ℕ, zero, suc, ◌+◌, ◌≤◌, cond, List, [], ◌∷◌, length, Some, None, refl, sym, ap, subst, arith}
-use Rattle.std.specs.Prelude.{slice_get}
-use Rattle.std.specs.Option.{option_map_or}
-use Rattle.std.proofs.lemmas.Option.{none-some, same_Some}
-use Rattle.std.proofs.lemmas.List.Sums.{sum_by-cons}
-use Rattle.oc_base.specs.declared.format.Format.{Format}
-use Rattle.oc_base.specs.declared.format.Format.TheVariants.{Mac32, Mac64}
-use Rattle.oc_base.specs.declared.format.Word.TheVariants.{W32, W64}
+use Rattle.std.specs.{Prelude.{slice_get}, Option.{option_map_or}}
+use Rattle.std.proofs.lemmas.{Option.{none-some, same_Some}, List.Sums.{sum_by-cons}}
+use Rattle.oc_base.specs.{declared.format.Format.{Format}, declared.format.Format.TheVariants.{Mac32, Mac64}, declared.format.Word.TheVariants.{W32, W64}}
 use Rattle.oc_base.specs.Formats.{word_for}
-use Rattle.oc_neutral.specs.Objects.{Object}
-use Rattle.oc_neutral.specs.Family.{Container, IsElf, IsCoff, IsMach, IsOmf}
-use Rattle.oc_neutral.specs.Families.{container_of}
-use Rattle.oc_neutral.specs.Invariants.{IsObject}
-use Rattle.oc_target.specs.Fitted.{IsFitted}
-use Rattle.oc_shows.specs.Written.{LooksAlike}
-use Rattle.oc_target.specs.TargetLaws.{SeenIsObject, SeenLooksAlike}
-use Rattle.oc_shows.specs.SymbolLines.{Line}
-use Rattle.oc_shows.specs.Manners.{Manner, mach_manner, omf_manner, manner_of, own_manner}
+use Rattle.oc_neutral.specs.{Objects.{Object}, Family.{Container, IsElf, IsCoff, IsMach, IsOmf}, Families.{container_of}, Invariants.{IsObject}}
+use Rattle.oc_target.specs.{Fitted.{IsFitted}, TargetLaws.{SeenIsObject, SeenLooksAlike}}
+use Rattle.oc_shows.specs.{Written.{LooksAlike}, SymbolLines.{Line}, Manners.{Manner, mach_manner, omf_manner, manner_of, own_manner}}
 use Rattle.oc_shows.specs.Seen.{shown_from, seen_with}
 use Rattle.oc_neutral.proofs.Formats.{of_mach, of_omf}
-use Rattle.oc_target.proofs.MeetsElf.{meets_elf}
-use Rattle.oc_target.proofs.MeetsCoff.{meets_coff}
-use Rattle.oc_target.proofs.MeetsMach.{meets_mach}
-use Rattle.oc_target.proofs.MeetsOmf.{meets_omf}
-use Rattle.oc_target.proofs.MeetsRelocs.{normal_of}
-use Rattle.oc_shows.proofs.SeenLines.{IsShown, table_shows}
-use Rattle.oc_shows.proofs.SeenTables.{is_shown, shown_count, entry_count}
-use Rattle.oc_target.proofs.SeenMoved.{seen_alike}
-use Rattle.oc_target.proofs.SeenObject.{seen_is_object}
-use Rattle.oc_target.proofs.SeenReady.{IsReady, elf_ready, coff_ready, mach_ready, omf_ready}
+use Rattle.oc_target.proofs.{MeetsElf.{meets_elf}, MeetsCoff.{meets_coff}, MeetsMach.{meets_mach}, MeetsOmf.{meets_omf}, MeetsRelocs.{normal_of}}
+use Rattle.oc_target.proofs.{SeenMoved.{seen_alike}, SeenObject.{seen_is_object}, SeenReady.{IsReady, elf_ready, coff_ready, mach_ready, omf_ready}}
+use Rattle.oc_shows.proofs.{SeenLines.{IsShown, table_shows}, SeenTables.{is_shown, shown_count, entry_count}}
 
 -- as many are shown as lines show
 shown_long : (number : ℕ) (lines : List Line) → length (shown_from number lines) ≡ shown_count lines

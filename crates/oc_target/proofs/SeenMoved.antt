@@ -1,41 +1,26 @@
 -- What is seen of an object that was written looks like the object: each relocation has its value, against a symbol at its new position, or against
 -- the section of a Global.
 use Rattle.std.proofs.Common.{◌≡◌, ℕ, ◌+◌, Bool, true, false, cond, List, Option, Some, None, refl, sym, ◌∙◌, ap}
-use Rattle.std.specs.Prelude.{slice_get, ℤ}
-use Rattle.std.specs.Option.{option_map, option_and_then, unwrap_or}
+use Rattle.std.specs.{Prelude.{slice_get, ℤ}, Option.{option_map, option_and_then, unwrap_or}}
 use Rattle.std.proofs.lemmas.Option.{none-some, same_Some}
 use Rattle.std.proofs.Math.Nat.{mod-mod}
-use Rattle.oc_base.specs.declared.format.Word.{Word}
-use Rattle.oc_base.specs.Formats.{word_for}
+use Rattle.oc_base.specs.{declared.format.Word.{Word}, Formats.{word_for}}
 use Rattle.oc_linking.specs.declared.terms.Fallback.TheVariants as fallback
-use Rattle.oc_linking.specs.declared.terms.Base.{Base}
+use Rattle.oc_linking.specs.{declared.terms.Base.{Base}, declared.terms.Less.{Less}, declared.terms.Binding.{Binding}}
+use Rattle.oc_linking.specs.{declared.terms.Binding.TheVariants.{Global, Weak}, Parts.{is_local}, Numbers.{modulus, minus, reduced}}
+use Rattle.oc_linking.specs.{Placing.{Placement, Outside, nowhere}, Values.{Valued, worthless, numbered, place_site, site_of, values}}
 use Rattle.oc_linking.specs.declared.terms.Base.TheVariants as base
-use Rattle.oc_linking.specs.declared.terms.Less.{Less}
 use Rattle.oc_linking.specs.declared.terms.Less.TheVariants as less
 use Rattle.oc_linking.specs.declared.terms.Value.TheVariants as value
-use Rattle.oc_linking.specs.declared.terms.Binding.{Binding}
-use Rattle.oc_linking.specs.declared.terms.Binding.TheVariants.{Global, Weak}
-use Rattle.oc_linking.specs.Parts.{is_local}
-use Rattle.oc_linking.specs.Numbers.{modulus, minus, reduced}
-use Rattle.oc_linking.specs.Placing.{Placement, Outside, nowhere}
-use Rattle.oc_linking.specs.Values.{Valued, worthless, numbered, place_site, site_of, values}
 use Rattle.oc_linking.proofs.Worth.{values-edited}
 use Rattle.oc_algebra.specs.Residues.{residue_of, reduced_number}
 use Rattle.oc_algebra.proofs.Laws.{residue_moved, minus-place}
-use Rattle.oc_neutral.specs.declared.section.Section.{Section}
-use Rattle.oc_neutral.specs.declared.symbol.Symbol.{Symbol}
-use Rattle.oc_neutral.specs.declared.reloc.Reloc.{Reloc}
-use Rattle.oc_neutral.specs.declared.reloc.Target.{Target}
+use Rattle.oc_neutral.specs.{declared.section.Section.{Section}, declared.symbol.Symbol.{Symbol}, declared.reloc.Reloc.{Reloc}, declared.reloc.Target.{Target}}
+use Rattle.oc_neutral.specs.{Objects.{Object, reloc_at}, Building.{is_zero}, Normal.{Place, at_section, moved_addend, takes_section}}
+use Rattle.oc_neutral.specs.{Invariants.{AreDistinct, IsOriginal}, Faces.{key_of, shown_section, shown_binding, shown_symbol, shown_symbols}}
+use Rattle.oc_neutral.specs.{Worth.{target_worth, base_of, less_of, residue_at}, KeySymbols.{global_place}}
 use Rattle.oc_neutral.specs.declared.reloc.Target.TheVariants as target
-use Rattle.oc_neutral.specs.Objects.{Object, reloc_at}
-use Rattle.oc_neutral.specs.Building.{is_zero}
-use Rattle.oc_neutral.specs.Normal.{Place, at_section, moved_addend, takes_section}
-use Rattle.oc_neutral.specs.Invariants.{AreDistinct, IsOriginal}
-use Rattle.oc_neutral.specs.Faces.{key_of, shown_section, shown_binding, shown_symbol, shown_symbols}
-use Rattle.oc_neutral.specs.Worth.{target_worth, base_of, less_of, residue_at}
-use Rattle.oc_shows.specs.Written.{LooksAlike}
-use Rattle.oc_neutral.specs.KeySymbols.{global_place}
-use Rattle.oc_shows.specs.Manners.{Manner}
+use Rattle.oc_shows.specs.{Written.{LooksAlike}, Manners.{Manner}}
 use Rattle.oc_shows.specs.Seen.{place_at, seen_with, seen_symbol, seen_target, seen_reloc, new_position, section_place, target_place}
 use Rattle.oc_shows.specs.Reordered.{HasValueOf, IsReordered}
 use Rattle.oc_shows.proofs.SeenLines.{IsShown}

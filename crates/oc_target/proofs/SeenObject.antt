@@ -1,40 +1,24 @@
 -- What is seen of an object is an object.
 use Rattle.std.proofs.Common.{◌≡◌, ℕ, zero, suc, ◌+◌, ◌^◌, ◌<◌, ◌≤◌, Bool, true, false, cond, List, [], ◌∷◌, length, map, Option, Some, None, refl, sym, ◌∙◌, ap, subst, inl, inr, arith}
-use Rattle.std.specs.Prelude.{slice_get, filter_map}
-use Rattle.std.specs.List.{AllByRecursion, enumerate_from, cons_option}
-use Rattle.std.specs.Option.{option_map, option_map_or, option_and_then}
-use Rattle.std.proofs.lemmas.Bool.{cases_lt, true≢false}
-use Rattle.std.proofs.lemmas.List.{length-map}
-use Rattle.std.proofs.lemmas.List.Sums.{sum_by-cons}
-use Rattle.std.proofs.lemmas.Option.{none-some, same_Some, slice_get_within}
+use Rattle.std.specs.{Prelude.{slice_get, filter_map}, List.{AllByRecursion, enumerate_from, cons_option}, Option.{option_map, option_map_or, option_and_then}}
+use Rattle.std.proofs.lemmas.{Bool.{cases_lt, true≢false}, List.{length-map}, List.Sums.{sum_by-cons}, Option.{none-some, same_Some, slice_get_within}}
 use Rattle.oc_base.specs.Formats.{word_for}
-use Rattle.oc_linking.specs.declared.terms.Hint.{Hint}
-use Rattle.oc_linking.specs.declared.terms.Hint.TheVariants.{Call}
-use Rattle.oc_linking.specs.declared.terms.Fallback.{Fallback}
+use Rattle.oc_linking.specs.{declared.terms.Hint.{Hint}, declared.terms.Hint.TheVariants.{Call}, declared.terms.Fallback.{Fallback}}
+use Rattle.oc_linking.specs.{declared.terms.Value.{Value}, declared.terms.Binding.{Binding}}
+use Rattle.oc_linking.specs.{declared.terms.Binding.TheVariants.{Local, Global, Undefined, Common, Weak}, Numbers.{modulus}, Parts.{is_local}}
 use Rattle.oc_linking.specs.declared.terms.Fallback.TheVariants as fallback
 use Rattle.oc_linking.specs.declared.terms.Value.TheVariants as value
-use Rattle.oc_linking.specs.declared.terms.Value.{Value}
-use Rattle.oc_linking.specs.declared.terms.Binding.{Binding}
-use Rattle.oc_linking.specs.declared.terms.Binding.TheVariants.{Local, Global, Undefined, Common, Weak}
-use Rattle.oc_linking.specs.Numbers.{modulus}
-use Rattle.oc_linking.specs.Parts.{is_local}
 use Rattle.oc_chains.specs.Lists.{list_of}
-use Rattle.oc_neutral.specs.declared.section.Section.{Section}
-use Rattle.oc_neutral.specs.declared.symbol.Symbol.{Symbol}
-use Rattle.oc_neutral.specs.declared.reloc.Reloc.{Reloc}
-use Rattle.oc_neutral.specs.declared.reloc.Target.TheVariants as target
-use Rattle.oc_neutral.specs.Objects.{Object, reloc_at}
-use Rattle.oc_neutral.specs.Building.{is_zero, stored_size, size_sum, stored_sum}
-use Rattle.oc_neutral.specs.Normal.{Place}
+use Rattle.oc_neutral.specs.{declared.section.Section.{Section}, declared.symbol.Symbol.{Symbol}, declared.reloc.Reloc.{Reloc}, Objects.{Object, reloc_at}}
+use Rattle.oc_neutral.specs.{Building.{is_zero, stored_size, size_sum, stored_sum}, Normal.{Place}}
 use Rattle.oc_neutral.specs.Invariants.{HasItsBytes, IsSection, IsAlign, IsMember, groups_of, HasOffset, IsValue, IsFallback, IsBinding, is_strong, IsSymbol, AreDistinct, IsHeld, IsBuilt, IsHinted, NamesOriginal, AreBegun, IsComplete, IsObject}
 use Rattle.oc_neutral.specs.KeySymbols.{global_place}
+use Rattle.oc_neutral.specs.declared.reloc.Target.TheVariants as target
 use Rattle.oc_shows.specs.Manners.{Manner}
 use Rattle.oc_shows.specs.Seen.{place_at, new_position, seen_with, seen_section, seen_symbol, seen_symbols, seen_binding, seen_fallback, seen_field}
-use Rattle.oc_neutral.proofs.Positions.{each_at}
-use Rattle.oc_shows.proofs.SeenLines.{IsShown}
-use Rattle.oc_shows.proofs.SeenAlike.{symbol_from, stands, seen_local}
+use Rattle.oc_neutral.proofs.{Positions.{each_at}, Mapped.{all_from, held_map}}
+use Rattle.oc_shows.proofs.{SeenLines.{IsShown}, SeenAlike.{symbol_from, stands, seen_local}}
 use Rattle.oc_target.proofs.SeenRelocs.{sections_long, original, place_there, seen_held, seen_each, seen_named, seen_hinted, seen_apart}
-use Rattle.oc_neutral.proofs.Mapped.{all_from, held_map}
 
 -- a filter makes no list longer
 filter_few : {X Y : Type 0} (f : X → Option Y) (xs : List X) → length (filter_map f xs) ≤ length xs

@@ -1,55 +1,26 @@
 -- What the laws of what is seen use of a fitted object, for each family.
-use Rattle.oc_neutral.proofs.Formats.{most_sections}
+use Rattle.oc_neutral.proofs.{Formats.{most_sections}, Positions.{each_at, there_at}, SortedFields.{found_held}}
 use Rattle.std.proofs.Common.{◌≡◌, ℕ, ◌+◌, ◌^◌, ◌<◌, ◌≤◌, true, false, cond, length, Option, Some, None, refl, sym, ◌∙◌, ap, subst, arith}
-use Rattle.std.specs.Prelude.{slice_get}
-use Rattle.std.specs.List.{AllByRecursion}
-use Rattle.std.specs.Option.{option_and_then, unwrap_or}
-use Rattle.std.proofs.lemmas.Bool.{true≢false}
-use Rattle.std.proofs.lemmas.Option.{none-some, same_Some}
-use Rattle.oc_base.specs.declared.format.Format.{Format}
-use Rattle.oc_base.specs.declared.format.Format.TheVariants.{Omf}
-use Rattle.oc_base.specs.declared.format.Word.{Word}
-use Rattle.oc_base.specs.declared.format.Word.TheVariants.{W32, W64}
-use Rattle.oc_base.specs.Formats.{word_for}
-use Rattle.oc_linking.specs.declared.terms.Hint.{Hint}
-use Rattle.oc_linking.specs.declared.terms.Hint.TheVariants.{Call}
-use Rattle.oc_linking.specs.declared.terms.Base.TheVariants.{Address}
-use Rattle.oc_linking.specs.declared.terms.Less.{Less}
-use Rattle.oc_linking.specs.declared.terms.Fallback.{Fallback}
+use Rattle.std.specs.{Prelude.{slice_get}, List.{AllByRecursion}, Option.{option_and_then, unwrap_or}}
+use Rattle.std.proofs.lemmas.{Bool.{true≢false}, Option.{none-some, same_Some}}
+use Rattle.oc_base.specs.{declared.format.Format.{Format}, declared.format.Format.TheVariants.{Omf}, declared.format.Word.{Word}}
+use Rattle.oc_base.specs.{declared.format.Word.TheVariants.{W32, W64}, Formats.{word_for}}
+use Rattle.oc_linking.specs.{declared.terms.Hint.{Hint}, declared.terms.Hint.TheVariants.{Call}, declared.terms.Base.TheVariants.{Address}}
+use Rattle.oc_linking.specs.{declared.terms.Less.{Less}, declared.terms.Fallback.{Fallback}, declared.terms.Binding.{Binding}}
+use Rattle.oc_linking.specs.{declared.terms.Binding.TheVariants.{Local, Global, Undefined, Common, Weak}, Numbers.{modulus}, Parts.{is_local}}
 use Rattle.oc_linking.specs.declared.terms.Fallback.TheVariants as fallback
-use Rattle.oc_linking.specs.declared.terms.Binding.{Binding}
-use Rattle.oc_linking.specs.declared.terms.Binding.TheVariants.{Local, Global, Undefined, Common, Weak}
-use Rattle.oc_linking.specs.Numbers.{modulus}
-use Rattle.oc_linking.specs.Parts.{is_local}
-use Rattle.oc_chains.specs.declared.field.Field.{Field}
-use Rattle.oc_chains.specs.Lists.{list_of}
-use Rattle.oc_neutral.specs.declared.section.Section.{Section}
-use Rattle.oc_neutral.specs.declared.symbol.Symbol.{Symbol}
-use Rattle.oc_neutral.specs.declared.reloc.Reloc.{Reloc}
-use Rattle.oc_neutral.specs.declared.reloc.Target.TheVariants as target
-use Rattle.oc_neutral.specs.Objects.{Object, reloc_at}
-use Rattle.oc_neutral.specs.Building.{is_zero}
-use Rattle.oc_neutral.specs.Normal.{Place}
+use Rattle.oc_chains.specs.{declared.field.Field.{Field}, Lists.{list_of}}
+use Rattle.oc_neutral.specs.{declared.section.Section.{Section}, declared.symbol.Symbol.{Symbol}, declared.reloc.Reloc.{Reloc}, Objects.{Object, reloc_at}}
+use Rattle.oc_neutral.specs.{Building.{is_zero}, Normal.{Place}}
 use Rattle.oc_neutral.specs.Invariants.{HasOffset, IsBinding, is_strong, IsOriginal, IsSymbol, IsObject, IsThere, NamesOriginal}
-use Rattle.oc_neutral.specs.KeySymbols.{global_place, group_at}
-use Rattle.oc_neutral.specs.Rows.{Row}
-use Rattle.oc_neutral.specs.RelocTables.{rows_of}
-use Rattle.oc_target.specs.Meets.{IsSteadyAt, MeetsReloc}
-use Rattle.oc_target.specs.ElfMeets.{MeetsElf}
-use Rattle.oc_target.specs.CoffMeets.{MeetsCoff}
-use Rattle.oc_target.specs.MachMeets.{MeetsMach}
-use Rattle.oc_target.specs.OmfMeets.{MeetsOmf}
-use Rattle.oc_shows.specs.SymbolLines.{is_weak_with}
-use Rattle.oc_shows.specs.Manners.{Manner, elf_size, elf_manner, coff_manner, mach_manner, omf_manner}
+use Rattle.oc_neutral.specs.{KeySymbols.{global_place, group_at}, Rows.{Row}, RelocTables.{rows_of}}
+use Rattle.oc_neutral.specs.declared.reloc.Target.TheVariants as target
+use Rattle.oc_target.specs.{Meets.{IsSteadyAt, MeetsReloc}, ElfMeets.{MeetsElf}, CoffMeets.{MeetsCoff}, MachMeets.{MeetsMach}, OmfMeets.{MeetsOmf}}
+use Rattle.oc_shows.specs.{SymbolLines.{is_weak_with}, Manners.{Manner, elf_size, elf_manner, coff_manner, mach_manner, omf_manner}}
 use Rattle.oc_shows.specs.Seen.{place_at, section_place, target_place}
-use Rattle.oc_neutral.proofs.Positions.{each_at, there_at}
-use Rattle.oc_neutral.proofs.SortedFields.{found_held}
-use Rattle.oc_target.proofs.MeetsRelocs.{normal_of}
-use Rattle.oc_shows.proofs.SeenLines.{IsTable}
-use Rattle.oc_shows.proofs.SeenTables.{shown_count, entry_count}
-use Rattle.oc_shows.proofs.SeenFamilies.{elf_table, coff_table, mach_table, omf_table}
+use Rattle.oc_target.proofs.{MeetsRelocs.{normal_of}, SeenMoved.{IsSectional, section_target}}
+use Rattle.oc_shows.proofs.{SeenLines.{IsTable}, SeenTables.{shown_count, entry_count}, SeenFamilies.{elf_table, coff_table, mach_table, omf_table}}
 use Rattle.oc_shows.proofs.SeenAlike.{IsNameable, global_is}
-use Rattle.oc_target.proofs.SeenMoved.{IsSectional, section_target}
 
 -- what the laws use
 pub record IsReady (m : Manner) (n : Object) : Type 0 where

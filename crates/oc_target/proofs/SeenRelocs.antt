@@ -1,48 +1,27 @@
 -- What is seen of the relocations of an object are fields of the object that is seen, in normal form.
 use Rattle.std.proofs.Common.{◌≡◌, ℕ, zero, suc, ◌<◌, ◌≤◌, false, cond, List, [], ◌∷◌, length, map, Option, Some, None, refl, sym, ◌∙◌, ap, subst, arith}
-use Rattle.std.specs.Prelude.{slice_get}
-use Rattle.std.specs.List.{AllByRecursion, enumerate_from}
-use Rattle.std.specs.Option.{option_map_or, option_and_then}
-use Rattle.std.proofs.lemmas.Bool.{true≢false, eq-eqb, ne_eqb}
-use Rattle.std.proofs.lemmas.List.{length-map}
-use Rattle.std.proofs.lemmas.List.FromFn.{length-enumerate_from}
-use Rattle.std.proofs.lemmas.Option.{none-some, slice_get_within}
+use Rattle.std.specs.{Prelude.{slice_get}, List.{AllByRecursion, enumerate_from}, Option.{option_map_or, option_and_then}}
+use Rattle.std.proofs.lemmas.{Bool.{true≢false, eq-eqb, ne_eqb}, List.{length-map}, List.FromFn.{length-enumerate_from}, Option.{none-some, slice_get_within}}
 use Rattle.oc_base.specs.Formats.{word_for}
-use Rattle.oc_linking.specs.declared.terms.Base.{Base}
+use Rattle.oc_linking.specs.{declared.terms.Base.{Base}, declared.terms.Hint.{Hint}, declared.terms.Hint.TheVariants.{Call}, declared.terms.Less.{Less}}
+use Rattle.oc_linking.specs.{declared.terms.Binding.{Binding}, declared.terms.Binding.TheVariants.{Local, Global, Undefined, Common, Weak}, Parts.{is_local}}
+use Rattle.oc_linking.specs.{Fits.{bytes_of}, declared.terms.Width.TheVariants.{Four}}
 use Rattle.oc_linking.specs.declared.terms.Base.TheVariants as base
-use Rattle.oc_linking.specs.declared.terms.Hint.{Hint}
-use Rattle.oc_linking.specs.declared.terms.Hint.TheVariants.{Call}
-use Rattle.oc_linking.specs.declared.terms.Less.{Less}
 use Rattle.oc_linking.specs.declared.terms.Less.TheVariants as less
-use Rattle.oc_linking.specs.declared.terms.Binding.{Binding}
-use Rattle.oc_linking.specs.declared.terms.Binding.TheVariants.{Local, Global, Undefined, Common, Weak}
-use Rattle.oc_linking.specs.Parts.{is_local}
 use Rattle.oc_algebra.specs.Residues.{reduced_number}
 use Rattle.oc_algebra.proofs.Laws.{reduced_reduced}
-use Rattle.oc_linking.specs.Fits.{bytes_of}
-use Rattle.oc_linking.specs.declared.terms.Width.TheVariants.{Four}
-use Rattle.oc_chains.specs.declared.field.Field.{Field}
-use Rattle.oc_chains.specs.Fields.{FollowFrom, end_of}
-use Rattle.oc_chains.specs.Lists.{list_of}
-use Rattle.oc_neutral.specs.declared.section.Section.{Section}
-use Rattle.oc_neutral.specs.declared.symbol.Symbol.{Symbol}
-use Rattle.oc_neutral.specs.declared.reloc.Reloc.{Reloc}
-use Rattle.oc_neutral.specs.declared.reloc.Target.{Target}
-use Rattle.oc_neutral.specs.declared.reloc.Target.TheVariants as target
+use Rattle.oc_chains.specs.{declared.field.Field.{Field}, Fields.{FollowFrom, end_of}, Lists.{list_of}}
+use Rattle.oc_neutral.specs.{declared.section.Section.{Section}, declared.symbol.Symbol.{Symbol}, declared.reloc.Reloc.{Reloc}, declared.reloc.Target.{Target}}
 use Rattle.oc_neutral.specs.Objects.{Object, reloc_among, reloc_at}
 use Rattle.oc_neutral.specs.Normal.{Place, place_among, local_place, cancels, takes_section, moved_addend, at_section}
 use Rattle.oc_neutral.specs.Invariants.{HasOffset, IsBinding, IsOriginal, IsSymbol, IsThere, IsLessThere, IsNormal, IsHeld, IsHinted, NamesOriginal, IsObject}
-use Rattle.oc_neutral.specs.Faces.{shown_symbol}
-use Rattle.oc_neutral.specs.KeySymbols.{global_place}
-use Rattle.oc_shows.specs.Manners.{Manner}
-use Rattle.oc_shows.specs.Seen.{new_position, seen_with, seen_section, seen_symbol, seen_target, seen_reloc, seen_field, section_place}
-use Rattle.oc_neutral.proofs.Positions.{each_at, each_weaker, there_at}
-use Rattle.oc_shows.proofs.Reordered.{member_map, of_map}
-use Rattle.oc_shows.proofs.SeenLines.{IsShown}
-use Rattle.oc_shows.proofs.SeenAlike.{stands, numbers_differ, seen_local, global_is}
+use Rattle.oc_neutral.specs.{Faces.{shown_symbol}, KeySymbols.{global_place}}
+use Rattle.oc_neutral.specs.declared.reloc.Target.TheVariants as target
+use Rattle.oc_shows.specs.{Manners.{Manner}, Seen.{new_position, seen_with, seen_section, seen_symbol, seen_target, seen_reloc, seen_field, section_place}}
+use Rattle.oc_neutral.proofs.{Positions.{each_at, each_weaker, there_at}, Mapped.{all_from, list_map}}
+use Rattle.oc_shows.proofs.{Reordered.{member_map, of_map}, SeenLines.{IsShown}, SeenAlike.{stands, numbers_differ, seen_local, global_is}}
 use Rattle.oc_shows.proofs.Looking.{cancels-symbol}
 use Rattle.oc_target.proofs.SeenMoved.{section_target}
-use Rattle.oc_neutral.proofs.Mapped.{all_from, list_map}
 
 -- each field is found at its own offset
 own_offsets : (p : ℕ) (xs : List (Field Reloc)) → FollowFrom p xs → AllByRecursion (λ (x : Field Reloc). (p ≤ x.at) × (reloc_among xs x.at ≡ Some x.item)) xs

@@ -1,22 +1,14 @@
 -- A search among names in ascending order.
 use Rattle.std.proofs.Common.{◌≡◌, refl, ℕ, inl, inr, Bool, true, false, cond, List, [], ◌∷◌, length, map, ◌∙◌, ap, sym, get_or, arith}
-use Rattle.std.specs.Prelude.{Result, Ok, Err, bytes_eq, is_ok, filter, not, ◌&&◌, ◌||◌}
-use Rattle.std.specs.List.{list_any}
-use Rattle.std.specs.List.Sorted.{IsBinarySearchResult, IsSearchInRange, IsPermutation}
-use Rattle.std.specs.declared.cmp.Ordering.{Ordering}
-use Rattle.std.specs.declared.cmp.Ordering.TheVariants.{Less, Equal, Greater}
-use Rattle.std.specs.Ordering.{nat_cmp, is_eq}
-use Rattle.std.specs.Cmp.Lexicographic.{slice_cmp}
-use Rattle.std.proofs.lemmas.Bool.{cases_lt}
-use Rattle.std.proofs.lemmas.Cmp.{nat_list_cmp_total, nat_list_eq_equiv}
-use Rattle.std.proofs.lemmas.List.Folds.{list_any_at, list_any_none}
-use Rattle.std.proofs.lemmas.List.Sorted.{list_any-IsPermutation, searchable_from_sorted}
-use Rattle.std.proofs.lemmas.Map.Text.{is_eq-slice_cmp}
+use Rattle.std.specs.{Prelude.{Result, Ok, Err, bytes_eq, is_ok, filter, not, ◌&&◌, ◌||◌}, List.{list_any}}
+use Rattle.std.specs.{List.Sorted.{IsBinarySearchResult, IsSearchInRange, IsPermutation}, declared.cmp.Ordering.{Ordering}}
+use Rattle.std.specs.{declared.cmp.Ordering.TheVariants.{Less, Equal, Greater}, Ordering.{nat_cmp, is_eq}, Cmp.Lexicographic.{slice_cmp}}
+use Rattle.std.proofs.lemmas.{Bool.{cases_lt}, Cmp.{nat_list_cmp_total, nat_list_eq_equiv}, List.Folds.{list_any_at, list_any_none}}
+use Rattle.std.proofs.lemmas.{List.Sorted.{list_any-IsPermutation, searchable_from_sorted}, Map.Text.{is_eq-slice_cmp}}
 use denote.Ref.{Bor}
 use Rattle.oc_base.specs.Strings.{is_given}
 use Rattle.oc_linking.specs.Parts.{is_local}
-use Rattle.oc_neutral.specs.declared.symbol.Symbol.{Symbol}
-use Rattle.oc_neutral.specs.Building.{has_name}
+use Rattle.oc_neutral.specs.{declared.symbol.Symbol.{Symbol}, Building.{has_name}}
 use Rattle.oc_strings.specs.Tables.{texts}
 use Rattle.oc_target.specs.Sorting.{compared, IsInOrder, nonlocal_names}
 

@@ -1,45 +1,24 @@
 -- What stands in the bytes of an object in a target are the constants of the relocations that the target stores as such.
 use Rattle.std.proofs.Common.{◌≡◌, ℕ, ◌+◌, ◌≤◌, Bool, true, false, cond, List, Option, Some, None, refl, sym, ◌∙◌, ap, subst, arith}
 use mathlib.Core.Path.{fun_ext}
-use Rattle.std.specs.Prelude.{ℤ, ◌&&◌, not, slice_get}
-use Rattle.std.specs.Option.{option_map, option_map_or, option_and_then}
-use Rattle.std.proofs.lemmas.Bool.{eqb-true, true≢false, and_parts}
-use Rattle.std.proofs.lemmas.Option.{none-some, same_Some}
-use Rattle.oc_base.specs.declared.format.Format.{Format}
-use Rattle.oc_base.specs.declared.format.Word.{Word}
-use Rattle.oc_base.specs.declared.format.Word.TheVariants.{W32, W64}
-use Rattle.oc_base.specs.Formats.{word_for}
-use Rattle.oc_linking.specs.declared.terms.Base.{Base}
+use Rattle.std.specs.{Prelude.{ℤ, ◌&&◌, not, slice_get}, Option.{option_map, option_map_or, option_and_then}}
+use Rattle.std.proofs.lemmas.{Bool.{eqb-true, true≢false, and_parts}, Option.{none-some, same_Some}}
+use Rattle.oc_base.specs.{declared.format.Format.{Format}, declared.format.Word.{Word}, declared.format.Word.TheVariants.{W32, W64}, Formats.{word_for}}
+use Rattle.oc_linking.specs.{declared.terms.Base.{Base}, declared.terms.Less.{Less}, declared.terms.Patch.{Patch}, Numbers.{minus}, Placing.{Placement, Site}}
+use Rattle.oc_linking.specs.{Values.{Valuation, Valued}, Fits.{bytes_of}, Images.{overlay}, Linking.{patch_of}, Shows.{Apart, blank, under_of, live_of, unders}}
 use Rattle.oc_linking.specs.declared.terms.Base.TheVariants as base
-use Rattle.oc_linking.specs.declared.terms.Less.{Less}
 use Rattle.oc_linking.specs.declared.terms.Less.TheVariants as less
-use Rattle.oc_linking.specs.declared.terms.Patch.{Patch}
-use Rattle.oc_linking.specs.Numbers.{minus}
-use Rattle.oc_linking.specs.Placing.{Placement, Site}
-use Rattle.oc_linking.specs.Values.{Valuation, Valued}
-use Rattle.oc_linking.specs.Fits.{bytes_of}
-use Rattle.oc_linking.specs.Images.{overlay}
-use Rattle.oc_linking.specs.Linking.{patch_of}
-use Rattle.oc_linking.specs.Shows.{Apart, blank, under_of, live_of, unders}
 use Rattle.oc_linking.proofs.Folding.{overlay_folded}
 use Rattle.oc_algebra.specs.Residues.{residue_of}
 use Rattle.oc_algebra.proofs.Laws.{residue_less}
-use Rattle.oc_neutral.specs.declared.section.Section.{Section}
-use Rattle.oc_neutral.specs.declared.symbol.Symbol.{Symbol}
-use Rattle.oc_neutral.specs.declared.reloc.Target.{Target}
-use Rattle.oc_neutral.specs.declared.reloc.Target.TheVariants as aim
-use Rattle.oc_neutral.specs.declared.reloc.Reloc.{Reloc}
-use Rattle.oc_neutral.specs.Objects.{Object, reloc_at}
-use Rattle.oc_neutral.specs.Invariants.{IsObject}
-use Rattle.oc_neutral.specs.Worth.{base_of, less_of, target_worth, residue_at}
-use Rattle.oc_neutral.specs.Faces.{contents_of, field_of}
-use Rattle.oc_neutral.specs.Families.{family_of}
+use Rattle.oc_neutral.specs.{declared.section.Section.{Section}, declared.symbol.Symbol.{Symbol}, declared.reloc.Target.{Target}, declared.reloc.Reloc.{Reloc}}
+use Rattle.oc_neutral.specs.{Objects.{Object, reloc_at}, Invariants.{IsObject}, Worth.{base_of, less_of, target_worth, residue_at}}
+use Rattle.oc_neutral.specs.{Faces.{contents_of, field_of}, Families.{family_of}}
 use Rattle.oc_neutral.specs.Mach.SelfReferences.{is_address, is_place, is_eight, is_long_distance, is_section, is_self_reference}
-use Rattle.oc_neutral.specs.Stored.{is_stored, stored_constant}
+use Rattle.oc_neutral.specs.{Stored.{is_stored, stored_constant}, Constants.{constant_patch}}
+use Rattle.oc_neutral.specs.declared.reloc.Target.TheVariants as aim
 use Rattle.oc_shows.specs.Shows.{patches_of}
-use Rattle.oc_target.specs.Fitted.{is_stored_at}
-use Rattle.oc_target.specs.Fitting.{constants}
-use Rattle.oc_neutral.specs.Constants.{constant_patch}
+use Rattle.oc_target.specs.{Fitted.{is_stored_at}, Fitting.{constants}}
 use Rattle.oc_shows.proofs.Blank.{section_blank}
 use Rattle.oc_target.proofs.FitLinks.{object_apart}
 

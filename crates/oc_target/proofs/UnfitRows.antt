@@ -2,33 +2,21 @@
 use Rattle.std.proofs.Common.{◌≡◌, false, [], ◌∷◌, map, Some, None, refl}
 use Rattle.std.specs.Prelude.{codes, pos, replicate}
 use Rattle.oc_base.specs.declared.code.Code.TheVariants as code
-use Rattle.oc_base.specs.declared.fault.Phase.TheVariants.{TargetSection, TargetSymbol, TargetRelocation}
-use Rattle.oc_base.specs.declared.format.Format.TheVariants.{Elf32, Omf}
-use Rattle.oc_linking.specs.declared.terms.Base.TheVariants.{Address}
-use Rattle.oc_linking.specs.declared.terms.Binding.{Binding}
-use Rattle.oc_linking.specs.declared.terms.Binding.TheVariants.{Undefined, Weak}
-use Rattle.oc_linking.specs.declared.terms.Check.{Check}
-use Rattle.oc_linking.specs.declared.terms.Check.TheVariants.{Wrap, Signed}
+use Rattle.oc_base.specs.{declared.fault.Phase.TheVariants.{TargetSection, TargetSymbol, TargetRelocation}, declared.format.Format.TheVariants.{Elf32, Omf}}
+use Rattle.oc_linking.specs.{declared.terms.Base.TheVariants.{Address}, declared.terms.Binding.{Binding}, declared.terms.Binding.TheVariants.{Undefined, Weak}}
+use Rattle.oc_linking.specs.{declared.terms.Check.{Check}, declared.terms.Check.TheVariants.{Wrap, Signed}, declared.terms.Hint.TheVariants.{Plain}}
+use Rattle.oc_linking.specs.{declared.terms.Kind.{Kind}, declared.terms.Width.TheVariants.{Four}}
 use Rattle.oc_linking.specs.declared.terms.Fallback.TheVariants as fallback
-use Rattle.oc_linking.specs.declared.terms.Hint.TheVariants.{Plain}
-use Rattle.oc_linking.specs.declared.terms.Kind.{Kind}
 use Rattle.oc_linking.specs.declared.terms.Kind.TheVariants as kind
 use Rattle.oc_linking.specs.declared.terms.Less.TheVariants as less
 use Rattle.oc_linking.specs.declared.terms.Mark.TheVariants as mark
 use Rattle.oc_linking.specs.declared.terms.Visibility.TheVariants as vis
-use Rattle.oc_linking.specs.declared.terms.Width.TheVariants.{Four}
-use Rattle.oc_algebra.specs.Fields.{to_field_of, field_for}
-use Rattle.oc_algebra.specs.Residues.{reduced_number, residue_of}
+use Rattle.oc_algebra.specs.{Fields.{to_field_of, field_for}, Residues.{reduced_number, residue_of}}
 use Rattle.oc_chains.specs.Fields.{field}
 use Rattle.oc_neutral.specs.declared.reloc.Target.TheVariants as target
 use Rattle.oc_target.specs.Fitted.{first_unfit}
-use Rattle.oc_neutral.specs.HomeNames.{output_names, wanted_names}
-use Rattle.oc_neutral.specs.Objects.{Object}
-use Rattle.oc_neutral.specs.Relocated.{is_relocated}
-use Rattle.oc_neutral.specs.Shifts.{field_shift}
-use Rattle.oc_neutral.specs.Spelling.{written_row}
-use Rattle.oc_neutral.specs.TargetRelocations.{reloc_conditions}
-use Rattle.oc_neutral.specs.TargetSections.{section_conditions, section_stages}
+use Rattle.oc_neutral.specs.{HomeNames.{output_names, wanted_names}, Objects.{Object}, Relocated.{is_relocated}, Shifts.{field_shift}, Spelling.{written_row}}
+use Rattle.oc_neutral.specs.{TargetRelocations.{reloc_conditions}, TargetSections.{section_conditions, section_stages}}
 use Rattle.oc_neutral.specs.TargetSymbols.{symbol_conditions, symbol_stages}
 
 -- an object of one section of that kind, number 3, one symbol of that binding, number 5, and a distance to it of that check at offset 8

@@ -1,30 +1,16 @@
 -- What a writer of COFF uses of an object that is ready to be written (PE/COFF, "Section Table", "COFF Relocations" and "COFF Symbol Table"; our profile).
 use Rattle.std.specs.Prelude.{◌≡◌, ℕ, ◌+◌, ◌^◌, ◌<◌, ◌≤◌, true, false, List, length, slice_get, sum_by, Some, None}
-use Rattle.oc_base.specs.Strings.{is_given}
-use Rattle.oc_base.specs.declared.format.Format.{Format}
-use Rattle.oc_linking.specs.declared.terms.Kind.{Kind}
-use Rattle.oc_linking.specs.declared.terms.Kind.TheVariants.{Zero, Exception}
-use Rattle.oc_linking.specs.declared.terms.Hint.TheVariants.{Plain}
-use Rattle.oc_linking.specs.declared.terms.Fallback.{Fallback}
-use Rattle.oc_linking.specs.declared.terms.Value.TheVariants.{Absolute}
+use Rattle.oc_base.specs.{Strings.{is_given}, declared.format.Format.{Format}}
+use Rattle.oc_linking.specs.{declared.terms.Kind.{Kind}, declared.terms.Kind.TheVariants.{Zero, Exception}, declared.terms.Hint.TheVariants.{Plain}}
+use Rattle.oc_linking.specs.{declared.terms.Fallback.{Fallback}, declared.terms.Value.TheVariants.{Absolute}}
 use Rattle.oc_linking.specs.declared.terms.Binding.TheVariants.{Global, Common, Weak}
-use Rattle.oc_neutral.specs.Family.{IsCoff}
-use Rattle.oc_neutral.specs.Powers.{natural_align}
-use Rattle.oc_neutral.specs.declared.section.Section.{Section}
-use Rattle.oc_neutral.specs.declared.symbol.Symbol.{Symbol}
-use Rattle.oc_neutral.specs.declared.reloc.Reloc.{Reloc}
-use Rattle.oc_neutral.specs.Coff.Kinds.{coff_kind, coff_tag}
+use Rattle.oc_neutral.specs.{Family.{IsCoff}, Powers.{natural_align}, declared.section.Section.{Section}, declared.symbol.Symbol.{Symbol}}
+use Rattle.oc_neutral.specs.{declared.reloc.Reloc.{Reloc}, Coff.Kinds.{coff_kind, coff_tag}}
 use Rattle.oc_neutral.specs.Coff.Strings.{is_long, is_tabled, has_default, default_name, coff_strings, string_offset}
 use Rattle.oc_neutral.specs.declared.coff.TheConstants.{IMAGE_SCN_CNT_UNINITIALIZED_DATA, ALIGN_BITS, MOST_NAME_OFFSET}
-use Rattle.oc_neutral.specs.Families.{family_of, container_of, section_range}
-use Rattle.oc_neutral.specs.HomeNames.{output_names}
-use Rattle.oc_target.specs.Fitted.{IsFitted}
-use Rattle.oc_neutral.specs.KindRules.{has, has_nul}
-use Rattle.oc_target.specs.Meets.{AreBounded, IsUncut, HasKeySymbol, IsPower, IsReadAs, MeetsReloc, HoldsAddend}
-use Rattle.oc_neutral.specs.Objects.{Object, reloc_at}
-use Rattle.oc_neutral.specs.RelocTables.{row_of}
-use Rattle.oc_neutral.specs.Rows.{taken_of, shift_of}
-use Rattle.oc_neutral.specs.WrittenSymbols.{is_written}
+use Rattle.oc_neutral.specs.{Families.{family_of, container_of, section_range}, HomeNames.{output_names}, KindRules.{has, has_nul}, Objects.{Object, reloc_at}}
+use Rattle.oc_neutral.specs.{RelocTables.{row_of}, Rows.{taken_of, shift_of}, WrittenSymbols.{is_written}}
+use Rattle.oc_target.specs.{Fitted.{IsFitted}, Meets.{AreBounded, IsUncut, HasKeySymbol, IsPower, IsReadAs, MeetsReloc, HoldsAddend}}
 
 -- the names that are given to the string table of an output, and where one lies
 abbrev pub strings_of : Format → Object → List (List ℕ)

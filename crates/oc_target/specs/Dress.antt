@@ -1,13 +1,9 @@
 -- What becomes of sections and symbols in a target, each in its place (our profile).
-use Rattle.std.specs.Prelude.{ℕ, List, [], get_or, map}
-use Rattle.std.specs.List.{enumerate_from}
+use Rattle.std.specs.{Prelude.{ℕ, List, [], get_or, map}, List.{enumerate_from}}
 use Rattle.oc_base.specs.declared.format.Format.{Format}
-use Rattle.oc_neutral.specs.declared.section.Section.{Section}
-use Rattle.oc_neutral.specs.Alignments.{output_align}
-use Rattle.oc_neutral.specs.Dressing.{dressed_section}
-use Rattle.oc_target.specs.Fitted.{fitted_symbol}
-use Rattle.oc_neutral.specs.HomeNames.{output_tag}
+use Rattle.oc_neutral.specs.{declared.section.Section.{Section}, Alignments.{output_align}, Dressing.{dressed_section}, HomeNames.{output_tag}}
 use Rattle.oc_neutral.specs.Objects.{Object}
+use Rattle.oc_target.specs.Fitted.{fitted_symbol}
 
 -- the section at a position of an object of the format `from`, in a target where its sections have these names
 abbrev pub dressed_at : Format → Format → List (List ℕ) → ℕ × Section → Section

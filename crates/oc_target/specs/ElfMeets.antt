@@ -1,30 +1,16 @@
 -- What a writer of ELF uses of an object that is ready to be written (gABI, "Section Header" and "Symbol Table"; i386 and x86-64 psABI; our profile).
 use Rattle.std.specs.Prelude.{◌≡◌, ℕ, ◌^◌, ◌<◌, ◌≤◌, true, false, length, slice_get, Some, None}
-use Rattle.oc_base.specs.declared.format.Format.{Format}
-use Rattle.oc_base.specs.Formats.{word_for}
-use Rattle.oc_base.specs.declared.format.Word.TheVariants.{W32}
-use Rattle.oc_linking.specs.declared.terms.Kind.TheVariants.{Exception}
-use Rattle.oc_linking.specs.declared.terms.Base.TheVariants.{Address}
+use Rattle.oc_base.specs.{declared.format.Format.{Format}, Formats.{word_for}, declared.format.Word.TheVariants.{W32}}
+use Rattle.oc_linking.specs.{declared.terms.Kind.TheVariants.{Exception}, declared.terms.Base.TheVariants.{Address}, declared.terms.Binding.TheVariants.{Weak}}
 use Rattle.oc_linking.specs.declared.terms.Fallback.TheVariants as fallback
-use Rattle.oc_linking.specs.declared.terms.Binding.TheVariants.{Weak}
-use Rattle.oc_neutral.specs.Family.{IsElf}
-use Rattle.oc_neutral.specs.declared.group.Group.{Group}
-use Rattle.oc_neutral.specs.declared.section.Section.{Section}
-use Rattle.oc_neutral.specs.declared.symbol.Symbol.{Symbol}
+use Rattle.oc_neutral.specs.{Family.{IsElf}, declared.group.Group.{Group}, declared.section.Section.{Section}, declared.symbol.Symbol.{Symbol}}
+use Rattle.oc_neutral.specs.{declared.reloc.Reloc.{Reloc}, declared.elf.TheConstants.{SHF_ALLOC, ALIGN_BITS}}
+use Rattle.oc_neutral.specs.{Elf.Kinds.{is_carried_type, elf_kind, elf_tag_type, elf_tag_flags, is_nobits_tag}, Families.{container_of, is_many, section_range}}
+use Rattle.oc_neutral.specs.{KindRules.{has, has_nul}, Objects.{Object, reloc_at}, RelocTables.{row_of}, Rows.{taken_of, shift_of}}
+use Rattle.oc_neutral.specs.{Elf.Family.{header_count, elf_symbol_count}, Relocated.{is_relocated}}
 use Rattle.oc_neutral.specs.declared.reloc.Target.TheVariants as target
-use Rattle.oc_neutral.specs.declared.reloc.Reloc.{Reloc}
-use Rattle.oc_neutral.specs.declared.elf.TheConstants.{SHF_ALLOC, ALIGN_BITS}
-use Rattle.oc_neutral.specs.Elf.Kinds.{is_carried_type, elf_kind, elf_tag_type, elf_tag_flags, is_nobits_tag}
-use Rattle.oc_neutral.specs.Families.{container_of, is_many, section_range}
-use Rattle.oc_target.specs.Fitted.{IsFitted}
-use Rattle.oc_neutral.specs.KindRules.{has, has_nul}
-use Rattle.oc_target.specs.Meets.{AreBounded, IsUncut, IsSteadyAt, IsPower, IsReadAs, MeetsReloc, HoldsAddend}
-use Rattle.oc_neutral.specs.Objects.{Object, reloc_at}
+use Rattle.oc_target.specs.{Fitted.{IsFitted}, Meets.{AreBounded, IsUncut, IsSteadyAt, IsPower, IsReadAs, MeetsReloc, HoldsAddend}}
 use Rattle.oc_shows.specs.Readable.{AreZeros}
-use Rattle.oc_neutral.specs.RelocTables.{row_of}
-use Rattle.oc_neutral.specs.Rows.{taken_of, shift_of}
-use Rattle.oc_neutral.specs.Elf.Family.{header_count, elf_symbol_count}
-use Rattle.oc_neutral.specs.Relocated.{is_relocated}
 
 -- a section
 pub record ElfSection (n : Object) (s : Section) : Type 0 where

@@ -1,36 +1,16 @@
 -- Objects that are ready to be written in a format, and what fitting makes of an object (our profile).
 use Rattle.std.specs.Prelude.{◌≡◌, ℕ, ◌+◌, ◌^◌, ◌≤◌, Bool, true, false, ◌||◌, ◌++◌, if◌then◌else◌, List, [], ◌∷◌, length, map, slice_get, Option, Some, None}
-use Rattle.std.specs.List.{AllByRecursion}
-use Rattle.std.specs.Option.{option_and_then, option_map_or}
-use Rattle.oc_base.specs.declared.format.Format.{Format}
-use Rattle.oc_base.specs.declared.fault.Fault.{Fault}
-use Rattle.oc_base.specs.Formats.{word_for}
-use Rattle.oc_linking.specs.declared.terms.Binding.{Binding}
-use Rattle.oc_linking.specs.declared.terms.Binding.TheVariants.{Local, Global, Undefined, Common, Weak}
-use Rattle.oc_linking.specs.declared.terms.Kind.TheVariants.{Note}
-use Rattle.oc_linking.specs.Parts as parts
-use Rattle.oc_linking.specs.FirstFault.{first_fault}
-use Rattle.oc_linking.specs.Placing.{Placement}
-use Rattle.oc_linking.specs.Values.{Valuation}
-use Rattle.oc_linking.specs.Images.{overlays}
+use Rattle.std.specs.{List.{AllByRecursion}, Option.{option_and_then, option_map_or}}
+use Rattle.oc_base.specs.{declared.format.Format.{Format}, declared.fault.Fault.{Fault}, Formats.{word_for}}
+use Rattle.oc_linking.specs.{declared.terms.Binding.{Binding}, declared.terms.Binding.TheVariants.{Local, Global, Undefined, Common, Weak}}
+use Rattle.oc_linking.specs.{declared.terms.Kind.TheVariants.{Note}, FirstFault.{first_fault}, Placing.{Placement}, Values.{Valuation}, Images.{overlays}}
 use Rattle.oc_linking.specs.Shows.{lives, unders}
-use Rattle.oc_neutral.specs.declared.group.Group.{Group}
-use Rattle.oc_neutral.specs.declared.section.Section.{Section}
-use Rattle.oc_neutral.specs.declared.symbol.Symbol.{Symbol}
-use Rattle.oc_neutral.specs.declared.reloc.Reloc.{Reloc}
-use Rattle.oc_neutral.specs.Objects.{Object, reloc_at}
-use Rattle.oc_neutral.specs.Invariants.{IsObject}
-use Rattle.oc_neutral.specs.Families.{same_format}
-use Rattle.oc_neutral.specs.Alignments.{output_align, common_align}
-use Rattle.oc_neutral.specs.GivenTags.{can_have}
-use Rattle.oc_neutral.specs.HomeNames.{is_home, output_names, output_tag}
-use Rattle.oc_neutral.specs.Stored.{is_stored}
-use Rattle.oc_neutral.specs.TargetSections.{section_stages}
-use Rattle.oc_neutral.specs.TargetSymbols.{symbol_stages}
-use Rattle.oc_neutral.specs.TargetRelocations.{relocation_stages}
-use Rattle.oc_neutral.specs.Faces.{key_of, contents_of, shown_sections, frame_of}
-use Rattle.oc_shows.specs.Readable.{IsBlankWhereTyped, IsReadable}
-use Rattle.oc_shows.specs.Shows.{looks_of, patches_of}
+use Rattle.oc_linking.specs.Parts as parts
+use Rattle.oc_neutral.specs.{declared.group.Group.{Group}, declared.section.Section.{Section}, declared.symbol.Symbol.{Symbol}, declared.reloc.Reloc.{Reloc}}
+use Rattle.oc_neutral.specs.{Objects.{Object, reloc_at}, Invariants.{IsObject}, Families.{same_format}, Alignments.{output_align, common_align}}
+use Rattle.oc_neutral.specs.{GivenTags.{can_have}, HomeNames.{is_home, output_names, output_tag}, Stored.{is_stored}, TargetSections.{section_stages}}
+use Rattle.oc_neutral.specs.{TargetSymbols.{symbol_stages}, TargetRelocations.{relocation_stages}, Faces.{key_of, contents_of, shown_sections, frame_of}}
+use Rattle.oc_shows.specs.{Readable.{IsBlankWhereTyped, IsReadable}, Shows.{looks_of, patches_of}}
 
 -- the first condition that an object breaks of those that a target sets: on sections, then on symbols, then on relocations
 unfoldable pub first_unfit : Format → Object → Option Fault

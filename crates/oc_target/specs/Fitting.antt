@@ -1,17 +1,12 @@
 -- What fitting makes of an object (our profile): it has the target's names, tags and alignments, and constants in place of the
 -- relocations that the target stores as such.
-use Rattle.std.specs.Prelude.{ℕ, map, get_or}
-use Rattle.std.specs.List.{enumerate_from}
-use Rattle.oc_base.specs.declared.format.Format.{Format}
-use Rattle.oc_base.specs.Formats.{word_for}
+use Rattle.std.specs.{Prelude.{ℕ, map, get_or}, List.{enumerate_from}}
+use Rattle.oc_base.specs.{declared.format.Format.{Format}, Formats.{word_for}}
 use Rattle.oc_linking.specs.Images.{Patches, overlay}
 use Rattle.oc_chains.specs.Lists.{list_of}
-use Rattle.oc_neutral.specs.declared.section.Section.{Section}
-use Rattle.oc_neutral.specs.Objects.{Object}
-use Rattle.oc_neutral.specs.Alignments.{output_align}
-use Rattle.oc_neutral.specs.HomeNames.{output_names, output_tag}
-use Rattle.oc_target.specs.Fitted.{fitted_symbol}
+use Rattle.oc_neutral.specs.{declared.section.Section.{Section}, Objects.{Object}, Alignments.{output_align}, HomeNames.{output_names, output_tag}}
 use Rattle.oc_neutral.specs.Constants.{constants_among, staying}
+use Rattle.oc_target.specs.Fitted.{fitted_symbol}
 
 -- the fields of an object that the target stores as constants
 abbrev pub constants : Format → Object → Patches

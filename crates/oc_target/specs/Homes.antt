@@ -1,9 +1,7 @@
 -- Homes, as the definitions have them.
-use Rattle.std.specs.Prelude.{Option}
-use Rattle.std.specs.Option.{option_map}
+use Rattle.std.specs.{Prelude.{Option}, Option.{option_map}}
 use Rattle.oc_neutral.specs.Family as family
-use Rattle.oc_target.specs.declared.homes.Home.{Home}
-use Rattle.oc_target.specs.Found.{held}
+use Rattle.oc_target.specs.{declared.homes.Home.{Home}, Found.{held}}
 
 -- where a kind is at home
 abbrev pub meant_home : Option Home → Option family.Home

@@ -1,10 +1,6 @@
 -- Where the key symbol of a group lies (our profile).
-use Rattle.std.specs.Prelude.{ℕ, if◌then◌else◌, Option, Some, None}
-use Rattle.std.specs.Option.{option_and_then}
-use Rattle.oc_neutral.specs.declared.symbol.Symbol.{Symbol}
-use Rattle.oc_neutral.specs.KeySymbols.{global_place, is_key_at}
-use Rattle.oc_neutral.specs.Normal.{Place}
-use Rattle.oc_neutral.specs.Objects.{Object}
+use Rattle.std.specs.{Prelude.{ℕ, if◌then◌else◌, Option, Some, None}, Option.{option_and_then}}
+use Rattle.oc_neutral.specs.{declared.symbol.Symbol.{Symbol}, KeySymbols.{global_place, is_key_at}, Normal.{Place}, Objects.{Object}}
 
 -- the section in which a symbol is the key symbol of the section's group
 abbrev pub key_place : Object → Symbol → Option ℕ

@@ -1,8 +1,7 @@
 -- What a look-up answers (our profile).
 use Rattle.std.specs.Prelude.{Option, Some, None, Result, Ok, Err}
 use Rattle.oc_neutral.specs.Spelling.{Spelled, One, Pair}
-use Rattle.oc_target.specs.declared.forms.NoForm.{NoForm}
-use Rattle.oc_target.specs.declared.forms.Spelling.{Spelling}
+use Rattle.oc_target.specs.{declared.forms.NoForm.{NoForm}, declared.forms.Spelling.{Spelling}}
 use Rattle.oc_target.specs.declared.forms.Spelling.TheVariants as spelling
 
 -- how a format writes a form

@@ -1,30 +1,18 @@
 -- What a writer of Mach-O uses of an object that is ready to be written (Mach-O reference, "section", "nlist" and "Relocation Data Structures"; our profile).
 use Rattle.std.specs.Prelude.{◌≡◌, ℕ, ◌^◌, ◌<◌, ◌≤◌, nat_eq, true, false, [], length, slice_get, ℤ, Some, None}
-use Rattle.oc_base.specs.Formats.{word_for}
-use Rattle.oc_base.specs.declared.format.Word.TheVariants.{W32, W64}
-use Rattle.oc_base.specs.declared.format.Format.{Format}
+use Rattle.oc_base.specs.{Formats.{word_for}, declared.format.Word.TheVariants.{W32, W64}, declared.format.Format.{Format}}
 use Rattle.oc_base.specs.declared.format.Format.TheVariants.{Mac32, Mac64}
-use Rattle.oc_linking.specs.declared.terms.Kind.TheVariants.{ReadOnly}
+use Rattle.oc_linking.specs.{declared.terms.Kind.TheVariants.{ReadOnly}, declared.terms.Binding.TheVariants.{Common, Weak}}
 use Rattle.oc_linking.specs.declared.terms.Less.TheVariants as less
 use Rattle.oc_linking.specs.declared.terms.Fallback.TheVariants as fallback
-use Rattle.oc_linking.specs.declared.terms.Binding.TheVariants.{Common, Weak}
-use Rattle.oc_neutral.specs.KindRules.{has_nul}
-use Rattle.oc_neutral.specs.Family.{IsMach}
-use Rattle.oc_neutral.specs.declared.section.Section.{Section}
-use Rattle.oc_neutral.specs.declared.symbol.Symbol.{Symbol}
-use Rattle.oc_neutral.specs.declared.reloc.Reloc.{Reloc}
-use Rattle.oc_neutral.specs.Families.{container_of}
-use Rattle.oc_target.specs.Fitted.{IsFitted}
+use Rattle.oc_neutral.specs.{KindRules.{has_nul}, Family.{IsMach}, declared.section.Section.{Section}, declared.symbol.Symbol.{Symbol}}
+use Rattle.oc_neutral.specs.{declared.reloc.Reloc.{Reloc}, Families.{container_of}}
 use Rattle.oc_neutral.specs.Mach.Kinds.{mach_name, segment_of, section_of, is_read_type, mach_kind, mach_tag, is_zerofill_tag}
-use Rattle.oc_neutral.specs.Mach.Relocs.{MachRow, length_of, mach_entries, entry_among}
-use Rattle.oc_neutral.specs.Mach.Family.{mach_symbol_count}
-use Rattle.oc_target.specs.Meets.{AreBounded, IsSteadyAt, IsPower, IsReadAs, MeetsReloc, HoldsAddend}
-use Rattle.oc_neutral.specs.Objects.{Object, reloc_at}
-use Rattle.oc_shows.specs.Readable.{AreZeros}
-use Rattle.oc_neutral.specs.Rows.{taken_of}
-use Rattle.oc_neutral.specs.Mach.SectionSymbols.{names_section, needed_sections}
-use Rattle.oc_neutral.specs.Shifts.{written_shift}
+use Rattle.oc_neutral.specs.{Mach.Relocs.{MachRow, length_of, mach_entries, entry_among}, Mach.Family.{mach_symbol_count}, Objects.{Object, reloc_at}}
+use Rattle.oc_neutral.specs.{Rows.{taken_of}, Mach.SectionSymbols.{names_section, needed_sections}, Shifts.{written_shift}}
 use Rattle.oc_neutral.specs.TargetRelocations.{fixed_end, is_symbol}
+use Rattle.oc_target.specs.{Fitted.{IsFitted}, Meets.{AreBounded, IsSteadyAt, IsPower, IsReadAs, MeetsReloc, HoldsAddend}}
+use Rattle.oc_shows.specs.Readable.{AreZeros}
 
 -- a section
 pub record MachSection (s : Section) : Type 0 where

@@ -1,7 +1,6 @@
 -- Marks of positions in a list, and of the groups of an object (our profile).
 use Rattle.std.specs.Prelude.{◌≡◌, ℕ, ◌<◌, Bool, false, ◌||◌, List, length, slice_index_or}
-use Rattle.oc_neutral.specs.KeySymbols.{has_key_symbol}
-use Rattle.oc_neutral.specs.Objects.{Object}
+use Rattle.oc_neutral.specs.{KeySymbols.{has_key_symbol}, Objects.{Object}}
 use Rattle.oc_target.specs.Cut.{is_cut_key}
 
 -- what was marked stays marked, and each position that passes the test is marked also

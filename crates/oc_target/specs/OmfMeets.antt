@@ -1,24 +1,12 @@
 -- What a writer of OMF uses of an object that is ready to be written (TIS OMF 1.1, "SEGDEF", "EXTDEF" and "FIXUPP"; our profile).
 use Rattle.std.specs.Prelude.{◌≡◌, ℕ, ◌≤◌, Bool, false, List, [], length, slice_get, count_by, ℤ, Some, None}
 use Rattle.oc_base.specs.declared.format.Format.TheVariants.{Omf}
-use Rattle.oc_linking.specs.declared.terms.Width.TheVariants.{Four}
-use Rattle.oc_linking.specs.declared.terms.Kind.TheVariants.{Zero}
-use Rattle.oc_linking.specs.declared.terms.Fallback.{Fallback}
-use Rattle.oc_linking.specs.declared.terms.Value.TheVariants.{Absolute}
-use Rattle.oc_linking.specs.declared.terms.Binding.TheVariants.{Global, Common, Weak}
-use Rattle.oc_linking.specs.Parts.{is_local}
-use Rattle.oc_neutral.specs.Bindings.{is_external}
-use Rattle.oc_neutral.specs.Omf.Family.{omf_aligns}
-use Rattle.oc_neutral.specs.declared.section.Section.{Section}
-use Rattle.oc_neutral.specs.declared.symbol.Symbol.{Symbol}
-use Rattle.oc_neutral.specs.declared.reloc.Reloc.{Reloc}
-use Rattle.oc_target.specs.CoffMeets.{IsNaturalCommon}
-use Rattle.oc_target.specs.Fitted.{IsFitted}
-use Rattle.oc_target.specs.Meets.{AreBounded, MeetsReloc, HoldsAddend}
-use Rattle.oc_neutral.specs.Objects.{Object, reloc_at}
-use Rattle.oc_neutral.specs.Omf.Kinds.{omf_kind, omf_class, omf_tag}
-use Rattle.oc_neutral.specs.Omf.Relocs.{FixupFrame, fixup_row}
-use Rattle.oc_neutral.specs.Rows.{taken_of}
+use Rattle.oc_linking.specs.{declared.terms.Width.TheVariants.{Four}, declared.terms.Kind.TheVariants.{Zero}, declared.terms.Fallback.{Fallback}}
+use Rattle.oc_linking.specs.{declared.terms.Value.TheVariants.{Absolute}, declared.terms.Binding.TheVariants.{Global, Common, Weak}, Parts.{is_local}}
+use Rattle.oc_neutral.specs.{Bindings.{is_external}, Omf.Family.{omf_aligns}, declared.section.Section.{Section}, declared.symbol.Symbol.{Symbol}}
+use Rattle.oc_neutral.specs.{declared.reloc.Reloc.{Reloc}, Objects.{Object, reloc_at}, Omf.Kinds.{omf_kind, omf_class, omf_tag}}
+use Rattle.oc_neutral.specs.{Omf.Relocs.{FixupFrame, fixup_row}, Rows.{taken_of}}
+use Rattle.oc_target.specs.{CoffMeets.{IsNaturalCommon}, Fitted.{IsFitted}, Meets.{AreBounded, MeetsReloc, HoldsAddend}}
 
 -- a section
 pub record OmfSection (s : Section) : Type 0 where

@@ -1,12 +1,8 @@
 -- The long names of symbols in the string table of a COFF output (PE/COFF, "COFF String Table"; our profile).
-use Rattle.std.specs.Prelude.{not, ◌&&◌, ℕ, List, length, filter, flat_map}
-use Rattle.std.specs.List.{range_with_len}
+use Rattle.std.specs.{Prelude.{not, ◌&&◌, ℕ, List, length, filter, flat_map}, List.{range_with_len}}
 use Rattle.oc_base.specs.declared.format.Format.{Format}
 use Rattle.oc_linking.specs.Parts.{is_local}
-use Rattle.oc_neutral.specs.declared.symbol.Symbol.{Symbol}
-use Rattle.oc_neutral.specs.Coff.Strings.{is_long, key_strings, names_where}
-use Rattle.oc_neutral.specs.KeySymbols.{is_key}
-use Rattle.oc_neutral.specs.Objects.{Object}
+use Rattle.oc_neutral.specs.{declared.symbol.Symbol.{Symbol}, Coff.Strings.{is_long, key_strings, names_where}, KeySymbols.{is_key}, Objects.{Object}}
 use Rattle.oc_neutral.specs.WrittenSymbols.{is_written}
 
 -- the long names of the key symbols, section by section

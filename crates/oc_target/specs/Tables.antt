@@ -3,8 +3,7 @@ use Rattle.std.specs.Prelude.{true, List, filter}
 use Rattle.oc_base.specs.declared.format.Format.{Format}
 use Rattle.oc_neutral.specs.Rows as rows
 use Rattle.oc_neutral.specs.RelocTables.{rows_of}
-use Rattle.oc_target.specs.declared.rows.Taken.{Taken}
-use Rattle.oc_target.specs.declared.rows.Taken.TheVariants.{Zero, Place, GotBase, ImageBase, Home, Section}
+use Rattle.oc_target.specs.{declared.rows.Taken.{Taken}, declared.rows.Taken.TheVariants.{Zero, Place, GotBase, ImageBase, Home, Section}}
 use Rattle.oc_target.specs.declared.rows.Row.{Row}
 
 -- what is taken

@@ -1,13 +1,9 @@
 -- Laws of objects that are ready for a target (our profile).
 use Rattle.std.specs.Prelude.{◌≡◌}
-use Rattle.oc_base.specs.declared.format.Format.{Format}
-use Rattle.oc_base.specs.Formats.{word_for}
-use Rattle.oc_neutral.specs.Objects.{Object}
-use Rattle.oc_neutral.specs.Invariants.{IsObject}
-use Rattle.oc_target.specs.Fitted.{IsFit, IsFitted}
-use Rattle.oc_target.specs.Fitting.{fit_of}
-use Rattle.oc_shows.specs.Seen.{seen}
-use Rattle.oc_shows.specs.Written.{LooksAlike}
+use Rattle.oc_base.specs.{declared.format.Format.{Format}, Formats.{word_for}}
+use Rattle.oc_neutral.specs.{Objects.{Object}, Invariants.{IsObject}}
+use Rattle.oc_target.specs.{Fitted.{IsFit, IsFitted}, Fitting.{fit_of}}
+use Rattle.oc_shows.specs.{Seen.{seen}, Written.{LooksAlike}}
 
 -- what an object is in a target with words of its size is what fitting makes of it
 abbrev pub FitIsComputed : Type 0

@@ -1,7 +1,6 @@
 -- What a dialect has from its format, and what the files of a writer have (our profile).
 use Rattle.std.specs.Prelude.{ℕ, List}
-use Rattle.oc_neutral.specs.Objects.{Object}
-use Rattle.oc_neutral.specs.Dialects.{Dialect, IsDialect}
+use Rattle.oc_neutral.specs.{Objects.{Object}, Dialects.{Dialect, IsDialect}}
 use Rattle.oc_target.specs.Fitted.{IsFitted}
 use Rattle.oc_shows.specs.Written.{IsWritten}
 

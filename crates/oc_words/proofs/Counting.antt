@@ -1,11 +1,7 @@
 -- Decimals that are no count.
 use Rattle.std.proofs.Common.{◌≡◌, ℕ, ◌^◌, ◌<◌, Bool, true, false, ◌&&◌, List, [], ◌∷◌, length, get_or, refl, subst, arith}
-use Rattle.std.specs.Prelude.{None, Result, Err, nat_lt, nat_le}
-use Rattle.std.specs.Str.{all_ascii_digits}
-use Rattle.std.specs.Str.Parse.{digits_value, ParsesUnsigned}
-use Rattle.std.proofs.lemmas.Bool.{false≢true}
-use Rattle.std.proofs.lemmas.Bool.Decides.{nat_tests}
-use Rattle.std.proofs.lemmas.Str.Parse.{IsNumeralModel, numerals_by_value, tells_all_ascii_digits, parse_digits}
+use Rattle.std.specs.{Prelude.{None, Result, Err, nat_lt, nat_le}, Str.{all_ascii_digits}, Str.Parse.{digits_value, ParsesUnsigned}}
+use Rattle.std.proofs.lemmas.{Bool.{false≢true}, Bool.Decides.{nat_tests}, Str.Parse.{IsNumeralModel, numerals_by_value, tells_all_ascii_digits, parse_digits}}
 use Rattle.oc_words.specs.Texts.{is_decimal, count_of}
 
 -- texts of ASCII digits are numerals

@@ -1,9 +1,6 @@
 -- Texts that begin with a prefix.
 use Rattle.std.proofs.Common.{◌≡◌, ℕ, ◌+◌, true, false, List, length, drop, refl, sym, ◌∙◌, ap, subst, MatchOption}
-use Rattle.std.specs.Prelude.{Option, Some, None}
-use Rattle.std.specs.Borrow.{Bor}
-use Rattle.std.specs.Str.{IsCharBoundary}
-use Rattle.std.specs.Str.Pattern.{FindsTextPrefix}
+use Rattle.std.specs.{Prelude.{Option, Some, None}, Borrow.{Bor}, Str.{IsCharBoundary}, Str.Pattern.{FindsTextPrefix}}
 use Rattle.std.proofs.lemmas.Str.Pattern.{starts_text}
 use Rattle.oc_words.specs.Texts.{behind}
 

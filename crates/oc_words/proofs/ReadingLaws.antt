@@ -1,32 +1,20 @@
 -- One more word is taken up.
 use Rattle.std.proofs.Common.{◌≡◌, ℕ, ◌+◌, Bool, true, false, List, [], ◌∷◌, ◌++◌, length, take, drop, refl, sym, ◌∙◌, ap, subst, add-one}
 use Rattle.std.specs.Prelude.{Option, Some, None, Result, Ok, Err, MatchResult, filter, bytes_eq, if◌then◌else◌, slice_get, codes}
-use Rattle.std.specs.Option.{unwrap_or, option_map, option_and_then}
-use Rattle.std.specs.List.{filter_map}
-use Rattle.std.proofs.lemmas.List.Elements.{filter-append, filter_map-append}
-use Rattle.std.proofs.lemmas.List.{append-nil, take_more}
-use Rattle.std.proofs.lemmas.Option.{slice_get_within, get_or_from_slice_get}
+use Rattle.std.specs.{Option.{unwrap_or, option_map, option_and_then}, List.{filter_map}}
+use Rattle.std.proofs.lemmas.{List.Elements.{filter-append, filter_map-append}, List.{append-nil, take_more}, Option.{slice_get_within, get_or_from_slice_get}}
 use Rattle.oc_base.specs.declared.format.Format.{Format}
 use Rattle.oc_linking.specs.Numbers.{first_upto}
 use Rattle.oc_linking.proofs.Upto.{first_upto_stop}
-use Rattle.oc_names.specs.declared.edit.Choice.{Choice}
-use Rattle.oc_names.specs.declared.edit.Choice.TheVariants.{Auto}
-use Rattle.oc_names.specs.Wishes.{Wishes}
-use Rattle.oc_words.specs.declared.fault.WordCode.{WordCode}
-use Rattle.oc_words.specs.declared.fault.WordCode.TheVariants.{Conflict, SameFile}
-use Rattle.oc_words.specs.declared.fault.WordFault.{WordFault}
-use Rattle.oc_words.specs.declared.fault.WordFault.TheVariants as fault
-use Rattle.oc_words.specs.declared.option.Argument.{Argument}
-use Rattle.oc_words.specs.declared.option.Argument.TheVariants as said
-use Rattle.oc_words.specs.declared.reading.Names.{Names}
-use Rattle.oc_words.specs.declared.reading.Names.TheVariants.{NoName, Input, Both}
-use Rattle.oc_words.specs.declared.reading.Reading.{Reading}
-use Rattle.oc_words.specs.Faults.{IsFaultAt, IsFaultOf}
-use Rattle.oc_words.specs.Texts.{behind}
-use Rattle.oc_words.specs.Options.{said_by}
-use Rattle.oc_words.specs.Jobs as jobs
+use Rattle.oc_names.specs.{declared.edit.Choice.{Choice}, declared.edit.Choice.TheVariants.{Auto}, Wishes.{Wishes}}
+use Rattle.oc_words.specs.{declared.fault.WordCode.{WordCode}, declared.fault.WordCode.TheVariants.{Conflict, SameFile}, declared.fault.WordFault.{WordFault}}
+use Rattle.oc_words.specs.{declared.option.Argument.{Argument}, declared.reading.Names.{Names}, declared.reading.Names.TheVariants.{NoName, Input, Both}}
+use Rattle.oc_words.specs.{declared.reading.Reading.{Reading}, Faults.{IsFaultAt, IsFaultOf}, Texts.{behind}, Options.{said_by}}
 use Rattle.oc_words.specs.Jobs.{targets, operands, wishes_of, last_choice, conflicts, choice_fault, target_fault, name_fault, fault_after, code_at, bad_at, converted, conversion_of, making_of, job_of}
 use Rattle.oc_words.specs.Readings.{IsReadingOf, HasRead, listed, listed_target, with_name, with_target, with_said, renamed, aimed}
+use Rattle.oc_words.specs.declared.fault.WordFault.TheVariants as fault
+use Rattle.oc_words.specs.declared.option.Argument.TheVariants as said
+use Rattle.oc_words.specs.Jobs as jobs
 
 -- ... what one more word adds
 

@@ -5,10 +5,7 @@ use Rattle.oc_base.specs.declared.format.Format.TheVariants.{Elf32, Coff32, Mac6
 use Rattle.oc_names.specs.declared.edit.Choice.TheVariants.{Auto, Strip, Keep}
 use Rattle.oc_names.specs.declared.edit.Edit.TheVariants.{Rename, Prefix, Suffix, Alias, AliasPrefix, AliasSuffix, Weaken, MakeLocal, Underscore}
 use Rattle.oc_words.specs.declared.fault.WordCode.TheVariants as code
-use Rattle.oc_words.specs.declared.job.Job.TheVariants.{Convert, Symbols, Make}
-use Rattle.oc_words.specs.Faults.{bad}
-use Rattle.oc_words.specs.Options.{said_by}
-use Rattle.oc_words.specs.Jobs.{conversion_of, job_of}
+use Rattle.oc_words.specs.{declared.job.Job.TheVariants.{Convert, Symbols, Make}, Faults.{bad}, Options.{said_by}, Jobs.{conversion_of, job_of}}
 
 -- ... the worked cases
 

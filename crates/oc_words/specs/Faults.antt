@@ -1,7 +1,6 @@
 -- Which word is at fault (our profile).
 use Rattle.std.specs.Prelude.{◌≡◌, ℕ, Result, Err}
-use Rattle.oc_words.specs.declared.fault.WordCode.{WordCode}
-use Rattle.oc_words.specs.declared.fault.WordFault.{WordFault}
+use Rattle.oc_words.specs.{declared.fault.WordCode.{WordCode}, declared.fault.WordFault.{WordFault}}
 use Rattle.oc_words.specs.declared.fault.WordFault.TheVariants as fault
 
 -- a word at fault: its index, counted from 0 without the program's name, and what is wrong with it

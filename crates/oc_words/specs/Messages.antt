@@ -1,6 +1,5 @@
 -- The texts for words that are no job (our profile).
-use Rattle.std.specs.Prelude.{ℕ, List, ◌++◌, codes}
-use Rattle.std.specs.Fmt.{decimal}
+use Rattle.std.specs.{Prelude.{ℕ, List, ◌++◌, codes}, Fmt.{decimal}}
 use Rattle.oc_words.specs.declared.fault.WordCode.{WordCode}
 use Rattle.oc_words.specs.declared.fault.WordCode.TheVariants as code
 

@@ -3,19 +3,13 @@ use Rattle.std.specs.Prelude.{ℕ, Bool, true, false, not, ◌&&◌, ◌||◌, n
 use Rattle.std.specs.Option.{option_map, option_and_then, option_map_or, unwrap_or}
 use Rattle.oc_base.specs.declared.format.Format.{Format}
 use Rattle.oc_linking.specs.Numbers.{or_else}
-use Rattle.oc_names.specs.declared.edit.Choice.TheVariants.{Strip, Keep}
-use Rattle.oc_names.specs.declared.edit.Edit.{Edit}
+use Rattle.oc_names.specs.{declared.edit.Choice.TheVariants.{Strip, Keep}, declared.edit.Edit.{Edit}}
 use Rattle.oc_names.specs.declared.edit.Edit.TheVariants as edit
-use Rattle.oc_words.specs.declared.fault.WordCode.TheVariants.{UnknownOption, BadPair}
-use Rattle.oc_words.specs.declared.naming.OptionHead.{OptionHead}
-use Rattle.oc_words.specs.declared.naming.OptionHead.TheVariants.{OfPair, OfName}
-use Rattle.oc_words.specs.declared.naming.PairHead.{PairHead}
-use Rattle.oc_words.specs.declared.naming.PairHead.TheVariants.{Rename, Prefix, Suffix, Alias, AliasPrefix, AliasSuffix}
-use Rattle.oc_words.specs.declared.naming.NameHead.{NameHead}
-use Rattle.oc_words.specs.declared.naming.NameHead.TheVariants.{Weaken, MakeLocal}
-use Rattle.oc_words.specs.declared.option.Argument.{Argument}
-use Rattle.oc_words.specs.declared.option.Argument.TheVariants.{Operand, Target, Asks, Debug, Exceptions, Faulty}
-use Rattle.oc_words.specs.Texts.{Cut, looked_up, behind, cut}
+use Rattle.oc_words.specs.{declared.fault.WordCode.TheVariants.{UnknownOption, BadPair}, declared.naming.OptionHead.{OptionHead}}
+use Rattle.oc_words.specs.{declared.naming.OptionHead.TheVariants.{OfPair, OfName}, declared.naming.PairHead.{PairHead}}
+use Rattle.oc_words.specs.{declared.naming.PairHead.TheVariants.{Rename, Prefix, Suffix, Alias, AliasPrefix, AliasSuffix}, declared.naming.NameHead.{NameHead}}
+use Rattle.oc_words.specs.{declared.naming.NameHead.TheVariants.{Weaken, MakeLocal}, declared.option.Argument.{Argument}}
+use Rattle.oc_words.specs.{declared.option.Argument.TheVariants.{Operand, Target, Asks, Debug, Exceptions, Faulty}, Texts.{Cut, looked_up, behind, cut}}
 use Rattle.oc_words.specs.Formats.{format_named}
 
 -- ... options without names

@@ -2,14 +2,10 @@
 use Rattle.std.specs.Prelude.{◌≡◌, ℕ, bytes_eq, if◌then◌else◌, List, [], ◌∷◌, length, Option, Some, None, Result, Ok, Err}
 use Rattle.oc_base.specs.declared.format.Format.{Format}
 use Rattle.oc_names.specs.Wishes.{with_edit, with_debug, with_exceptions}
-use Rattle.oc_words.specs.declared.fault.WordCode.{WordCode}
-use Rattle.oc_words.specs.declared.fault.WordCode.TheVariants.{SecondTarget, Conflict, ExtraName, SameFile}
-use Rattle.oc_words.specs.declared.option.Argument.{Argument}
+use Rattle.oc_words.specs.{declared.fault.WordCode.{WordCode}, declared.fault.WordCode.TheVariants.{SecondTarget, Conflict, ExtraName, SameFile}}
+use Rattle.oc_words.specs.{declared.option.Argument.{Argument}, declared.reading.Names.{Names}, declared.reading.Names.TheVariants.{NoName, Input, Both}}
+use Rattle.oc_words.specs.{declared.reading.Reading.{Reading}, Jobs.{targets, wishes_of, operands, conflicts, bad_at}}
 use Rattle.oc_words.specs.declared.option.Argument.TheVariants as said
-use Rattle.oc_words.specs.declared.reading.Names.{Names}
-use Rattle.oc_words.specs.declared.reading.Names.TheVariants.{NoName, Input, Both}
-use Rattle.oc_words.specs.declared.reading.Reading.{Reading}
-use Rattle.oc_words.specs.Jobs.{targets, wishes_of, operands, conflicts, bad_at}
 use Rattle.oc_linking.specs.Numbers.{first_upto}
 
 -- the names of files that were recorded

@@ -1,8 +1,6 @@
 -- Texts that are cut, and texts that are looked up. All are compared byte for byte.
 use Rattle.std.specs.Prelude.{ℕ, Bool, ◌&&◌, nat_eq, nat_lt, nat_le, bytes_eq, if◌then◌else◌, List, [], ◌∷◌, length, drop, slice_index, Option, Some, None}
-use Rattle.std.specs.List.{starts_with, position_or_len, before_first, after_first}
-use Rattle.std.specs.Str.{all_ascii_digits}
-use Rattle.std.specs.Str.Parse.{digits_value}
+use Rattle.std.specs.{List.{starts_with, position_or_len, before_first, after_first}, Str.{all_ascii_digits}, Str.Parse.{digits_value}}
 
 -- what a text means, by the first row of a table that has it
 abbrev pub looked_up : {X : Type 0} → List (List ℕ × X) → List ℕ → Option X

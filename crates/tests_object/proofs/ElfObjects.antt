@@ -1,20 +1,12 @@
 -- A small object of ELF can be fitted to every format of its word.
 use Rattle.std.proofs.Common.{◌≡◌, ◌≢◌, refl, ℕ, zero, suc, true, false, true≢false, List, [], ◌∷◌, length, Some, Result, Ok, Err, IfOk, sym, subst, ◌∙◌, ap, arith, codes}
-use Rattle.std.specs.Prelude.{slice_get}
-use Rattle.std.specs.List.{AllByRecursion}
+use Rattle.std.specs.{Prelude.{slice_get}, List.{AllByRecursion}}
 use Rattle.std.proofs.lemmas.Option.{none-some, same_Some}
-use Rattle.oc_base.specs.declared.format.Format.{Format}
-use Rattle.oc_base.specs.declared.format.Word.{Word}
-use Rattle.oc_base.specs.declared.format.Word.TheVariants.{W32, W64}
-use Rattle.oc_base.specs.Formats.{word_for}
-use Rattle.oc_linking.specs.declared.terms.Kind.{Kind}
-use Rattle.oc_linking.specs.declared.terms.Kind.TheVariants.{Code, Init, Exception, Note}
-use Rattle.oc_neutral.specs.declared.section.Section.{Section}
-use Rattle.oc_neutral.specs.Elf.Family.{elf_gives}
-use Rattle.oc_neutral.specs.Elf.Kinds.{elf_kind}
-use Rattle.oc_target.specs.Fitted.{CanFit}
-use Rattle.oc_neutral.specs.GivenTags.{can_have, is_blank_type}
+use Rattle.oc_base.specs.{declared.format.Format.{Format}, declared.format.Word.{Word}, declared.format.Word.TheVariants.{W32, W64}, Formats.{word_for}}
+use Rattle.oc_linking.specs.{declared.terms.Kind.{Kind}, declared.terms.Kind.TheVariants.{Code, Init, Exception, Note}}
+use Rattle.oc_neutral.specs.{declared.section.Section.{Section}, Elf.Family.{elf_gives}, Elf.Kinds.{elf_kind}, GivenTags.{can_have, is_blank_type}}
 use Rattle.oc_neutral.specs.Objects.{Object}
+use Rattle.oc_target.specs.Fitted.{CanFit}
 use Rattle.oc_shows.specs.Readable.{IsReadable}
 use Rattle.tests_object.specs.Elf.{IsGiven, elf_of}
 

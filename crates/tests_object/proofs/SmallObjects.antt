@@ -1,40 +1,22 @@
 -- What sections, symbols and relocations make of small objects, and that these can be finished.
 use Rattle.std.proofs.Common.{◌≡◌, ℕ, zero, suc, ◌^◌, ◌<◌, ◌≤◌, Bool, true, false, cond, List, [], ◌∷◌, ◌++◌, length, Option, Some, None, Result, Ok, Err, OnOk, OnErr, refl, sym, ◌∙◌, ap, subst, arith}
-use Rattle.std.specs.Prelude.{slice_get}
-use Rattle.std.specs.List.{AllByRecursion}
-use Rattle.std.proofs.lemmas.List.{get_or_past}
-use Rattle.std.proofs.lemmas.Option.{none-some}
-use Rattle.oc_base.specs.declared.format.Format.{Format}
-use Rattle.oc_base.specs.declared.format.Word.{Word}
-use Rattle.oc_base.specs.declared.format.Word.TheVariants.{W32, W64}
-use Rattle.oc_base.specs.Formats.{word_for}
-use Rattle.oc_linking.specs.declared.terms.Binding.{Binding}
-use Rattle.oc_linking.specs.declared.terms.Binding.TheVariants.{Local, Global, Undefined, Common, Weak}
-use Rattle.oc_linking.specs.declared.terms.Fallback.{Fallback}
+use Rattle.std.specs.{Prelude.{slice_get}, List.{AllByRecursion}}
+use Rattle.std.proofs.lemmas.{List.{get_or_past}, Option.{none-some}}
+use Rattle.oc_base.specs.{declared.format.Format.{Format}, declared.format.Word.{Word}, declared.format.Word.TheVariants.{W32, W64}, Formats.{word_for}}
+use Rattle.oc_linking.specs.{declared.terms.Binding.{Binding}, declared.terms.Binding.TheVariants.{Local, Global, Undefined, Common, Weak}}
+use Rattle.oc_linking.specs.{declared.terms.Fallback.{Fallback}, declared.terms.Value.{Value}, Fits.{bytes_of}, Numbers.{modulus}}
 use Rattle.oc_linking.specs.declared.terms.Fallback.TheVariants as fallback
-use Rattle.oc_linking.specs.declared.terms.Value.{Value}
 use Rattle.oc_linking.specs.declared.terms.Value.TheVariants as value
-use Rattle.oc_linking.specs.Fits.{bytes_of}
-use Rattle.oc_linking.specs.Numbers.{modulus}
-use Rattle.oc_chains.specs.declared.field.Field.{Field}
-use Rattle.oc_chains.specs.Fields.{field}
-use Rattle.oc_chains.specs.Lists.{Lists, list_of}
-use Rattle.oc_neutral.specs.declared.fault.BuildFault.{BuildFault}
-use Rattle.oc_neutral.specs.declared.fault.BuildFault.TheVariants as build
-use Rattle.oc_neutral.specs.declared.section.Section.{Section}
-use Rattle.oc_neutral.specs.declared.symbol.Symbol.{Symbol}
-use Rattle.oc_neutral.specs.declared.reloc.Reloc.{Reloc}
-use Rattle.oc_neutral.specs.declared.reloc.Target.{Target}
-use Rattle.oc_neutral.specs.declared.reloc.Target.TheVariants as target
+use Rattle.oc_chains.specs.{declared.field.Field.{Field}, Fields.{field}, Lists.{Lists, list_of}}
+use Rattle.oc_neutral.specs.{declared.fault.BuildFault.{BuildFault}, declared.section.Section.{Section}, declared.symbol.Symbol.{Symbol}}
+use Rattle.oc_neutral.specs.{declared.reloc.Reloc.{Reloc}, declared.reloc.Target.{Target}}
 use Rattle.oc_neutral.specs.Building.{Draft, empty_draft, limit_passed, numbered_in, reloc_added, section_added, section_by, symbol_added, with_number}
 use Rattle.oc_neutral.specs.Invariants.{AreBegun, HasOffset, HaveKeys, IsAlign, IsBinding, IsBuilt, IsComplete, IsDraft, IsFallback, IsHeld, IsHinted, IsSymbol, IsThere, IsValue, NamesOriginal, groups_of, is_strong}
 use Rattle.oc_neutral.specs.Objects.{Object}
-use Rattle.oc_neutral.proofs.DraftAdded.{IsOne, kept, constant, one}
-use Rattle.oc_neutral.proofs.MoreRelocs.{all_placed, by_list}
-use Rattle.oc_neutral.proofs.MoreSections.{sectioned}
-use Rattle.oc_neutral.proofs.MoreSymbols.{symboled}
-use Rattle.oc_neutral.proofs.NormalLemmas.{kept_hinted}
-use Rattle.oc_neutral.proofs.Positions.{each_weaker}
+use Rattle.oc_neutral.specs.declared.fault.BuildFault.TheVariants as build
+use Rattle.oc_neutral.specs.declared.reloc.Target.TheVariants as target
+use Rattle.oc_neutral.proofs.{DraftAdded.{IsOne, kept, constant, one}, MoreRelocs.{all_placed, by_list}, MoreSections.{sectioned}, MoreSymbols.{symboled}}
+use Rattle.oc_neutral.proofs.{NormalLemmas.{kept_hinted}, Positions.{each_weaker}}
 use Rattle.tests_object.specs.Small.{FallsBack, IsAlone, IsBare, IsCalling, IsNear, IsPlain, IsSmall, IsStrongFirst, Speaks}
 
 -- ... what is added

@@ -1,12 +1,9 @@
 -- Small objects of ELF, which can be fitted to every format of their word.
 use Rattle.std.specs.Prelude.{◌≡◌, ◌≢◌, true, false}
-use Rattle.oc_base.specs.declared.format.Format.{Format}
-use Rattle.oc_base.specs.declared.format.Format.TheVariants.{Elf32, Elf64}
-use Rattle.oc_base.specs.declared.format.Word.{Word}
+use Rattle.oc_base.specs.{declared.format.Format.{Format}, declared.format.Format.TheVariants.{Elf32, Elf64}, declared.format.Word.{Word}}
 use Rattle.oc_base.specs.declared.format.Word.TheVariants.{W32, W64}
 use Rattle.oc_linking.specs.declared.terms.Kind.TheVariants.{Note}
-use Rattle.oc_neutral.specs.declared.section.Section.{Section}
-use Rattle.oc_neutral.specs.GivenTags.{can_have, is_blank_type}
+use Rattle.oc_neutral.specs.{declared.section.Section.{Section}, GivenTags.{can_have, is_blank_type}}
 
 -- ELF of a word
 abbrev pub elf_of : Word → Format

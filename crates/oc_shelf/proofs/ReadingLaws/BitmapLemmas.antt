@@ -1,19 +1,10 @@
 -- Bytes that are taken one after another are those of the entries so far.
 use Rattle.std.proofs.Common.{◌≡◌, ℕ, zero, suc, ◌+◌, ◌*◌, ◌/◌, ◌%◌, ◌^◌, ◌<◌, ◌≤◌, inl, inr, Bool, true, false, ◌&&◌, eqb, List, length, Option, Some, None, refl, sym, ◌∙◌, ap, subst, arith}
-use Rattle.std.specs.Prelude.{◌||◌, nat_lt, slice_index_or, slice_set}
-use Rattle.std.specs.Int.{bit_at, w64}
-use Rattle.std.specs.Int.Bits.{bit_or}
-use Rattle.std.specs.Option.{option_map_or}
-use Rattle.std.proofs.Math.Nat.{div-add-mod}
-use Rattle.std.proofs.lemmas.List.{get_or-set_other, get_or-set_same}
-use Rattle.std.proofs.lemmas.Nat.Bits.{bit_at_set_other, bit_at_set_same}
-use Rattle.std.proofs.lemmas.Bool.{cases_eq, cases_lt, eq-eqb, ne_eqb, true≢false}
-use Rattle.std.proofs.lemmas.Bool.Decides.{nat_tests}
-use Rattle.std.proofs.lemmas.Option.{none-some, same_Some}
-use Rattle.std.proofs.Math.Bool.{or-false}
-use Rattle.oc_shelf.specs.Reading.Bitmaps.{has, is_between, room, IsMetIn, AreBytesOf}
-use Rattle.oc_shelf.specs.Reading.Firsts.{any_upto}
-use Rattle.oc_shelf.specs.Reading.Spans.{meets}
+use Rattle.std.specs.{Prelude.{◌||◌, nat_lt, slice_index_or, slice_set}, Int.{bit_at, w64}, Int.Bits.{bit_or}, Option.{option_map_or}}
+use Rattle.std.proofs.{Math.Nat.{div-add-mod}, Math.Bool.{or-false}}
+use Rattle.std.proofs.lemmas.{List.{get_or-set_other, get_or-set_same}, Nat.Bits.{bit_at_set_other, bit_at_set_same}}
+use Rattle.std.proofs.lemmas.{Bool.{cases_eq, cases_lt, eq-eqb, ne_eqb, true≢false}, Bool.Decides.{nat_tests}, Option.{none-some, same_Some}}
+use Rattle.oc_shelf.specs.{Reading.Bitmaps.{has, is_between, room, IsMetIn, AreBytesOf}, Reading.Firsts.{any_upto}, Reading.Spans.{meets}}
 use Rattle.oc_shelf.proofs.ReadingLaws.FirstsLemmas.{any_more, any_none, any_true}
 
 -- a byte more is taken, and all others stay

@@ -1,7 +1,6 @@
 -- Numbers, ranges and texts of bytes.
 use Rattle.std.proofs.Common.{◌≡◌, ℕ, zero, suc, ◌+◌, ◌*◌, ◌<◌, ◌^◌, Bool, true, false, cond, eqb, get_or, List, [], ◌∷◌, drop, take, Option, None, Some, refl, subst, arith}
-use Rattle.std.specs.List.{AllByRecursion}
-use Rattle.std.specs.Option.{option_map}
+use Rattle.std.specs.{List.{AllByRecursion}, Option.{option_map}}
 use Rattle.std.proofs.lemmas.Option.{none-some, same_Some}
 use Rattle.oc_base.specs.Numbers.{number_at}
 use Rattle.oc_shelf.specs.Reading.Texts.{text_within}

@@ -1,13 +1,9 @@
 -- Lists that are gathered entry by entry.
 use Rattle.std.proofs.Common.{◌≡◌, ℕ, zero, suc, ◌+◌, ◌<◌, ◌≤◌, ◌⊎◌, inl, inr, List, [], ◌∷◌, ◌++◌, length, map, Option, Some, None, refl, ◌∙◌, ap, subst, arith, length-append, sym}
-use Rattle.std.specs.Prelude.{slice_get, filter_map}
-use Rattle.std.specs.List.{AllByRecursion, sum_by, cons_option, enumerate_from}
+use Rattle.std.specs.{Prelude.{slice_get, filter_map}, List.{AllByRecursion, sum_by, cons_option, enumerate_from}}
 use Rattle.std.specs.Option.{option_map, option_map_or, option_and_then}
-use Rattle.std.proofs.lemmas.Bool.{cases_eq, cases_lt}
-use Rattle.std.proofs.lemmas.Option.{none-some, same_Some}
-use Rattle.std.proofs.lemmas.List.Sums.{sum_by-append, sum_by-cons}
-use Rattle.oc_shelf.specs.Reading.Collected.{with_option, collected}
-use Rattle.oc_shelf.specs.Reading.Sums.{sum_upto}
+use Rattle.std.proofs.lemmas.{Bool.{cases_eq, cases_lt}, Option.{none-some, same_Some}, List.Sums.{sum_by-append, sum_by-cons}}
+use Rattle.oc_shelf.specs.{Reading.Collected.{with_option, collected}, Reading.Sums.{sum_upto}}
 
 module _ {X : Type 0} where
   -- the last of a list with one more

@@ -1,11 +1,8 @@
 -- The first entries that pass a test, and the first of each key.
 use Rattle.std.proofs.Common.{◌≡◌, ℕ, zero, suc, ◌+◌, ◌<◌, inl, inr, Bool, true, false, cond, eqb, Option, Some, None, refl, sym, ◌∙◌, ap, subst, arith}
-use Rattle.std.specs.Prelude.{◌||◌}
-use Rattle.std.specs.Option.{option_map_or}
-use Rattle.std.proofs.lemmas.Bool.{cases_eq, eq-eqb, eqb-true, true≢false}
-use Rattle.std.proofs.lemmas.Option.{none-some, same_Some}
-use Rattle.oc_linking.proofs.Upto.{first_upto_from}
-use Rattle.oc_linking.proofs.FirstFaultLaws.{first_upto_none}
+use Rattle.std.specs.{Prelude.{◌||◌}, Option.{option_map_or}}
+use Rattle.std.proofs.lemmas.{Bool.{cases_eq, eq-eqb, eqb-true, true≢false}, Option.{none-some, same_Some}}
+use Rattle.oc_linking.proofs.{Upto.{first_upto_from}, FirstFaultLaws.{first_upto_none}}
 use Rattle.oc_linking.specs.Numbers.{or_else, first_upto}
 use Rattle.oc_shelf.specs.Reading.Firsts.{any_upto, has_key, first_keyed}
 

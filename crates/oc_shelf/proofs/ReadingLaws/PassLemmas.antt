@@ -1,8 +1,7 @@
 -- What is found in a list whose items all pass a test.
 use Rattle.std.proofs.Common.{◌≡◌, Bool, true, false, cond, List, [], ◌∷◌, Some, refl, sym, subst}
 use Rattle.std.specs.Prelude.{◌&&◌, find}
-use Rattle.std.proofs.lemmas.Bool.{true≢false}
-use Rattle.std.proofs.lemmas.Option.{none-some, same_Some}
+use Rattle.std.proofs.lemmas.{Bool.{true≢false}, Option.{none-some, same_Some}}
 
 abbrev pub all_pass : {X : Type 0} → (X → Bool) → List X → Bool
 all_pass test [] = true

@@ -1,17 +1,10 @@
 -- Entries at places that differ, in an order of their own.
 use Rattle.std.proofs.Common.{◌≡◌, ℕ, zero, suc, ◌<◌, ◌≤◌, Bool, true, false, List, [], ◌∷◌, ◌++◌, length, take, Option, None, Some, refl, sym, ◌∙◌, ap, subst, arith, get_or, length-take, inl, inr}
-use Rattle.std.specs.Prelude.{nat_eq, slice_get}
-use Rattle.std.specs.List.{All, AllByRecursion, Any, IsDistinct}
-use Rattle.std.specs.List.Sorted.{IsPermutation}
-use Rattle.std.proofs.lemmas.Bool.{cases_eq, eq-eqb, ne_eqb}
-use Rattle.std.proofs.lemmas.List.{get_or-take}
-use Rattle.std.proofs.lemmas.List.Folds.{Any-from_list_any, list_any_at}
-use Rattle.std.proofs.lemmas.List.Sorted.{All-permutation, list_any-IsPermutation}
-use Rattle.std.proofs.lemmas.Map.Keys.{IsDistinct-IsPermutation, apart_from_distinct}
+use Rattle.std.specs.{Prelude.{nat_eq, slice_get}, List.{All, AllByRecursion, Any, IsDistinct}, List.Sorted.{IsPermutation}}
+use Rattle.std.proofs.lemmas.{Bool.{cases_eq, eq-eqb, ne_eqb}, List.{get_or-take}, List.Folds.{Any-from_list_any, list_any_at}}
+use Rattle.std.proofs.lemmas.{List.Sorted.{All-permutation, list_any-IsPermutation}, Map.Keys.{IsDistinct-IsPermutation, apart_from_distinct}}
 use Rattle.std.proofs.lemmas.Option.{same_Some, get_or_from_slice_get, slice_get-get_or}
-use Rattle.oc_shelf.specs.declared.reading.order.PlacedEntry.{PlacedEntry}
-use Rattle.oc_shelf.specs.Reading.Collected.{collected, with_option}
-use Rattle.oc_shelf.specs.Reading.Order.{is_among}
+use Rattle.oc_shelf.specs.{declared.reading.order.PlacedEntry.{PlacedEntry}, Reading.Collected.{collected, with_option}, Reading.Order.{is_among}}
 use Rattle.oc_shelf.proofs.ReadingLaws.CollectedLemmas.{all_with, collected-all, collected-at, length-step}
 
 -- two are at one place

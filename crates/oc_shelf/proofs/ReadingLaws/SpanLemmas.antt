@@ -1,12 +1,8 @@
 -- Spans that are taken one after another are those of the entries so far.
 use Rattle.std.proofs.Common.{◌≡◌, ℕ, ◌+◌, ◌<◌, ◌≤◌, ◌⊎◌, inl, inr, Bool, true, false, cond, eqb, ◌&&◌, List, [], Option, Some, None, refl, sym, ◌∙◌, ap, arith}
-use Rattle.std.specs.Prelude.{nat_lt}
-use Rattle.std.specs.Option.{option_map_or}
-use Rattle.std.proofs.lemmas.Bool.{cases_eq, cases_lt, eq-eqb, ne_eqb}
-use Rattle.std.proofs.lemmas.Bool.Decides.{nat_tests}
-use Rattle.std.proofs.lemmas.Option.{none-some, same_Some}
-use Rattle.oc_shelf.specs.Reading.Firsts.{any_upto}
-use Rattle.oc_shelf.specs.Reading.Spans.{end_at, meets, AreSpans, EndBy, IsMet, AreSpansOf}
+use Rattle.std.specs.{Prelude.{nat_lt}, Option.{option_map_or}}
+use Rattle.std.proofs.lemmas.{Bool.{cases_eq, cases_lt, eq-eqb, ne_eqb}, Bool.Decides.{nat_tests}, Option.{none-some, same_Some}}
+use Rattle.oc_shelf.specs.{Reading.Firsts.{any_upto}, Reading.Spans.{end_at, meets, AreSpans, EndBy, IsMet, AreSpansOf}}
 use Rattle.oc_shelf.proofs.ReadingLaws.FirstsLemmas.{any_none, any_true}
 
 -- none at first

@@ -1,17 +1,11 @@
 -- Stages of conditions, judged by loops, and running sums.
 use Rattle.std.proofs.Common.{◌≡◌, ℕ, zero, suc, ◌+◌, ◌<◌, Bool, true, false, cond, List, [], ◌∷◌, ◌++◌, map, Option, Some, None, refl, sym, ◌∙◌, ap, subst, arith}
-use Rattle.std.specs.Prelude.{not, ◌&&◌}
-use Rattle.std.specs.List.{AllByRecursion, range_with_len}
-use Rattle.std.proofs.lemmas.Bool.{true≢false}
-use Rattle.std.proofs.lemmas.Option.{none-some}
-use Rattle.oc_base.specs.declared.fault.Fault.{Fault}
-use Rattle.oc_base.specs.declared.stop.Stop.{Stop}
+use Rattle.std.specs.{Prelude.{not, ◌&&◌}, List.{AllByRecursion, range_with_len}}
+use Rattle.std.proofs.lemmas.{Bool.{true≢false}, Option.{none-some}}
+use Rattle.oc_base.specs.{declared.fault.Fault.{Fault}, declared.stop.Stop.{Stop}, Stops.{IsStop}}
 use Rattle.oc_base.specs.declared.stop.Stop.TheVariants as stop
-use Rattle.oc_base.specs.Stops.{IsStop}
-use Rattle.oc_linking.specs.Numbers.{or_else, first_upto}
-use Rattle.oc_linking.specs.FirstFault.{Condition, first_broken, Stage, fault_of, stage_fault, first_fault}
-use Rattle.oc_linking.proofs.Upto.{first_upto_stop}
-use Rattle.oc_linking.proofs.FirstFaultLaws.{first_upto_none}
+use Rattle.oc_linking.specs.{Numbers.{or_else, first_upto}, FirstFault.{Condition, first_broken, Stage, fault_of, stage_fault, first_fault}}
+use Rattle.oc_linking.proofs.{Upto.{first_upto_stop}, FirstFaultLaws.{first_upto_none}}
 use Rattle.oc_shelf.specs.Reading.Sums.{sum_upto}
 
 -- the first of two lists of conditions

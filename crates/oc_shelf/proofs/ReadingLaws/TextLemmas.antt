@@ -1,14 +1,10 @@
 -- The text that ends at the first NUL.
 use Rattle.std.proofs.Common.{◌≡◌, ℕ, zero, suc, ◌+◌, ◌<◌, ◌≤◌, true, false, cond, eqb, List, [], ◌∷◌, length, get_or, take, drop, Option, Some, None, refl, sym, ◌∙◌, ap, arith, eq-eqb, min, length-take, length-drop, Bool}
-use Rattle.std.specs.Option.{option_map}
-use Rattle.std.proofs.lemmas.Bool.{eqb-true, le-leb}
-use Rattle.std.proofs.lemmas.Bool.Decides.{nat_tests}
-use Rattle.std.proofs.lemmas.List.{take-take, get_or-take, get_or-drop}
+use Rattle.std.specs.{Option.{option_map}, Prelude.{nat_le}}
+use Rattle.std.proofs.lemmas.{Bool.{eqb-true, le-leb}, Bool.Decides.{nat_tests}, List.{take-take, get_or-take, get_or-drop}, Option.{none-some, same_Some}}
 use Rattle.memchr.specs.Find.{is_byte, NoneBefore, Passes}
 use Rattle.oc_base.specs.Texts.{HasNoTextAt}
 use Rattle.oc_shelf.specs.Reading.Texts.{text_within, text_at, short}
-use Rattle.std.specs.Prelude.{nat_le}
-use Rattle.std.proofs.lemmas.Option.{none-some, same_Some}
 
 other : (x : ℕ) → (x ≡ 0 → ⊥) → eqb x 0 ≡ false
 other x ne = elim (eqb x 0) as (λ b. eqb x 0 ≡ b → eqb x 0 ≡ false) [ true ↦ λ e. absurd (ne (eqb-true x 0 e)) | false ↦ λ e. e ] refl

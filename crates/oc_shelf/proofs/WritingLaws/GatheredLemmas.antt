@@ -1,13 +1,10 @@
 -- Lists that are gathered entry by entry, from things that are numbered one by one.
 use Rattle.std.proofs.Common.{◌≡◌, ℕ, zero, suc, ◌+◌, true, false, cond, List, [], ◌∷◌, ◌++◌, length, map, Option, Some, None, refl, sym, ◌∙◌, ap, subst, arith, append_assoc, append-nil}
-use Rattle.std.specs.Prelude.{slice_get, filter_map, find, Bool}
-use Rattle.std.specs.List.{cons_option, range_with_len}
+use Rattle.std.specs.{Prelude.{slice_get, filter_map, find, Bool}, List.{cons_option, range_with_len}}
 use Rattle.oc_linking.specs.Numbers.{or_else, first_upto}
 use Rattle.std.proofs.lemmas.Option.{none-some, same_Some}
-use Rattle.oc_shelf.specs.Reading.Collected.{with_option, collected}
-use Rattle.oc_shelf.specs.Writing.Parts.{Laid, laid, behind, place_where}
-use Rattle.oc_shelf.proofs.ReadingLaws.StageLemmas.{first_upto-head}
-use Rattle.oc_shelf.proofs.WritingLaws.PartLemmas.{laid_part, place_found}
+use Rattle.oc_shelf.specs.{Reading.Collected.{with_option, collected}, Writing.Parts.{Laid, laid, behind, place_where}}
+use Rattle.oc_shelf.proofs.{ReadingLaws.StageLemmas.{first_upto-head}, WritingLaws.PartLemmas.{laid_part, place_found}}
 
 -- what entries give is what is left of the things that stand at their numbers
 pub collected_laid : {X Y : Type 0} (size : X → ℕ) (one : (x : X) → size x ≡ 1) (item : ℕ → Option Y) (g : Laid X → Option Y) (i : ℕ) (xs : List X)

@@ -2,10 +2,8 @@
 use Rattle.std.proofs.Common.{◌≡◌, ℕ, zero, suc, ◌+◌, ◌-◌, ◌<◌, ◌≤◌, List, [], ◌∷◌, ◌++◌, length, take, drop, replicate, get_or, refl, sym, ◌∙◌, ap, subst, arith, length-append}
 use Rattle.std.proofs.lemmas.List.{length-replicate}
 use Rattle.oc_outside.specs.Windows.{IsFilled}
-use Rattle.oc_shelf.specs.declared.writing.layout.Layout.{Layout}
-use Rattle.oc_shelf.specs.Writing.Parts.{IsPlaced, Pieces, file_of, joined, piece_at, pieces_at, pieces_by}
-use Rattle.oc_shelf.proofs.WritingLaws.PieceLemmas.{bytes_from, cut_behind, file_more, front_end, front_low, gap_long}
-use Rattle.oc_shelf.proofs.WritingLaws.WindowLemmas.{filled_full}
+use Rattle.oc_shelf.specs.{declared.writing.layout.Layout.{Layout}, Writing.Parts.{IsPlaced, Pieces, file_of, joined, piece_at, pieces_at, pieces_by}}
+use Rattle.oc_shelf.proofs.{WritingLaws.PieceLemmas.{bytes_from, cut_behind, file_more, front_end, front_low, gap_long}, WritingLaws.WindowLemmas.{filled_full}}
 
 -- ... parts at places
 

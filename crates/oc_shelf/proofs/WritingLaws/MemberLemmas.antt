@@ -1,10 +1,8 @@
 -- Members of lists by their places.
 use Rattle.std.proofs.Common.{◌≡◌, ℕ, zero, suc, ◌+◌, ◌<◌, ◌≤◌, Bool, true, false, List, [], ◌∷◌, ◌++◌, length, map, Option, Some, None, refl, sym, ◌∙◌, ap, subst, inl, inr, arith, cond}
 use Rattle.std.specs.Prelude.{◌⊎◌, slice_get, flat_map, filter_map, find}
-use Rattle.std.specs.List.{enumerate_from, cons_option, list_any, position_or_len, filter, AllByRecursion}
-use Rattle.std.proofs.lemmas.Bool.{cases_lt}
-use Rattle.std.specs.Option.{option_map}
-use Rattle.std.proofs.lemmas.Option.{none-some, same_Some}
+use Rattle.std.specs.{List.{enumerate_from, cons_option, list_any, position_or_len, filter, AllByRecursion}, Option.{option_map}}
+use Rattle.std.proofs.lemmas.{Bool.{cases_lt}, Option.{none-some, same_Some}}
 
 pub member_first : {X : Type 0} (xs ys : List X) (k : ℕ) (x : X) → slice_get xs k ≡ Some x → slice_get (xs ++ ys) k ≡ Some x
 member_first [] ys k x here = absurd (none-some x here)

@@ -3,8 +3,7 @@ use Rattle.std.proofs.Common.{◌≡◌, ℕ, zero, suc, ◌+◌, ◌^◌, ◌<�
 use Rattle.std.specs.List.{AllByRecursion}
 use Rattle.oc_base.specs.Numbers.{number_at, bytes_of_number}
 use Rattle.oc_base.proofs.NumberLaws.{length-bytes_of_number, number_at-shift, number_at-bytes}
-use Rattle.oc_shelf.specs.Writing.Parts.{Stands}
-use Rattle.oc_shelf.specs.Writing.Packed.{packed}
+use Rattle.oc_shelf.specs.{Writing.Parts.{Stands}, Writing.Packed.{packed}}
 
 -- each number fits its width
 abbrev pub Fit : List (ℕ × ℕ) → Type 0

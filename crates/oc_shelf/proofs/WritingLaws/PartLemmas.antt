@@ -1,10 +1,7 @@
 -- The parts of a file stand at their places.
 use Rattle.std.proofs.Common.{◌≡◌, ℕ, zero, suc, ◌+◌, ◌-◌, ◌<◌, ◌≤◌, Bool, true, false, List, [], ◌∷◌, ◌++◌, length, map, Option, Some, None, refl, sym, ◌∙◌, ap, subst, inl, inr, arith, append_assoc, length-append}
-use Rattle.std.specs.Prelude.{slice_get, replicate, flat_map, filter_map}
-use Rattle.std.specs.List.{cons_option}
-use Rattle.std.proofs.lemmas.List.{length-replicate}
-use Rattle.std.proofs.lemmas.Bool.{true≢false, cases_lt}
-use Rattle.std.proofs.lemmas.Option.{none-some, same_Some}
+use Rattle.std.specs.{Prelude.{slice_get, replicate, flat_map, filter_map}, List.{cons_option}}
+use Rattle.std.proofs.lemmas.{List.{length-replicate}, Bool.{true≢false, cases_lt}, Option.{none-some, same_Some}}
 use Rattle.oc_shelf.specs.Writing.Parts.{Stands, Laid, laid, laid_end, behind, joined, aligned, place_where}
 use Rattle.oc_shelf.proofs.WritingLaws.StandingLemmas.{stands_first, stands_second}
 

@@ -1,7 +1,6 @@
 -- The sizes of string tables, and sums of sizes.
 use Rattle.std.proofs.Common.{◌≡◌, ℕ, suc, ◌+◌, ◌*◌, ◌≤◌, Bool, true, false, cond, List, [], ◌∷◌, ◌++◌, length, refl, arith, length-append, zero, ap, Some}
-use Rattle.std.specs.Prelude.{flat_map, not, ◌&&◌, slice_get}
-use Rattle.std.specs.List.{sum_by, filter, fold, enumerate_from}
+use Rattle.std.specs.{Prelude.{flat_map, not, ◌&&◌, slice_get}, List.{sum_by, filter, fold, enumerate_from}}
 use Rattle.std.proofs.lemmas.List.Sums.{sum_by-cons, sum_by-append}
 use Rattle.oc_base.specs.Strings.{is_maximal, is_given, with_top, tops_of, table_text}
 use Rattle.oc_base.specs.Strings as strings

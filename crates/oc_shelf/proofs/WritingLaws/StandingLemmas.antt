@@ -1,13 +1,11 @@
 -- What stands at a place of a file, and how it is read there.
 use Rattle.std.proofs.Common.{◌≡◌, ℕ, zero, suc, ◌+◌, ◌*◌, ◌^◌, ◌<◌, ◌≤◌, List, [], ◌∷◌, ◌++◌, length, get_or, take, drop, map, Some, refl, sym, ◌∙◌, ap, subst, arith, append_assoc, append-nil, length-append}
 use Rattle.std.specs.Prelude.{flat_map, slice_get}
-use Rattle.std.proofs.lemmas.List.{take_at, take-append-le, get_or_append_left}
-use Rattle.std.proofs.lemmas.Option.{none-some, same_Some}
+use Rattle.std.proofs.lemmas.{List.{take_at, take-append-le, get_or_append_left}, Option.{none-some, same_Some}}
 use Rattle.std.proofs.Math.Seq.{drop-append-add}
 use Rattle.oc_base.specs.Numbers.{number_at, bytes_of_number}
 use Rattle.oc_base.proofs.NumberLaws.{number_at-shift, number_at-bytes}
-use Rattle.oc_shelf.specs.Reading.Rows.{rows}
-use Rattle.oc_shelf.specs.Writing.Parts.{Stands}
+use Rattle.oc_shelf.specs.{Reading.Rows.{rows}, Writing.Parts.{Stands}}
 
 -- a whole file stands at its beginning
 pub stands_whole : (xs : List ℕ) → Stands xs 0 xs

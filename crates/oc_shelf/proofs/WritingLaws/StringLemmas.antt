@@ -1,16 +1,10 @@
 -- Names in string tables, and names that are cut off by NULs.
 use Rattle.std.proofs.Common.{◌≡◌, ℕ, zero, suc, ◌-◌, ◌≤◌, Bool, true, false, cond, eqb, List, [], ◌∷◌, ◌++◌, length, Option, Some, None, refl, sym, ◌∙◌, ap, subst, inl, inr, ◌⊎◌, arith, append_assoc}
-use Rattle.std.specs.Prelude.{slice_get, nat_eq, not, ◌||◌}
-use Rattle.std.specs.List.{list_any, filter}
-use Rattle.std.specs.Cmp.Lexicographic.{pointwise}
-use Rattle.std.specs.Option.{is_some, option_map, unwrap_or}
-use Rattle.std.proofs.lemmas.Bool.{true≢false, or_left, or_right, ne_eqb, eqb-false, or_parts}
-use Rattle.std.proofs.lemmas.Option.{none-some, same_Some}
+use Rattle.std.specs.{Prelude.{slice_get, nat_eq, not, ◌||◌}, List.{list_any, filter}, Cmp.Lexicographic.{pointwise}, Option.{is_some, option_map, unwrap_or}}
+use Rattle.std.proofs.lemmas.{Bool.{true≢false, or_left, or_right, ne_eqb, eqb-false, or_parts}, Option.{none-some, same_Some}}
 use Rattle.oc_base.specs.Strings.{is_given, tops_of, place_from, table_text, table_place}
-use Rattle.oc_strings.proofs.GivenLemmas.{name_itself}
-use Rattle.oc_strings.proofs.PlaceLaws.{stands, given_place}
-use Rattle.oc_shelf.specs.Reading.Texts.{text_at, text_within}
-use Rattle.oc_shelf.specs.Writing.Parts.{Stands}
+use Rattle.oc_strings.proofs.{GivenLemmas.{name_itself}, PlaceLaws.{stands, given_place}}
+use Rattle.oc_shelf.specs.{Reading.Texts.{text_at, text_within}, Writing.Parts.{Stands}}
 use Rattle.oc_shelf.proofs.WritingLaws.StandingLemmas.{stands_drop, stands_second}
 
 -- a NUL is among the bytes

@@ -1,7 +1,6 @@
 -- A window of a file made of parts is made of the windows of its parts and of the zeros between them: the file need not be held.
 use Rattle.std.proofs.Common.{◌≡◌, ℕ, zero, suc, ◌+◌, ◌-◌, ◌≤◌, inl, inr, List, [], ◌∷◌, ◌++◌, length, take, drop, replicate, min, refl, sym, ◌∙◌, ap, subst, arith, append-nil, append_assoc, length-append, length-take, length-drop}
-use Rattle.std.proofs.lemmas.Bool.{cases_lt}
-use Rattle.std.proofs.lemmas.List.{take_at, take_all, drop-drop, drop_at, drop_all}
+use Rattle.std.proofs.lemmas.{Bool.{cases_lt}, List.{take_at, take_all, drop-drop, drop_at, drop_all}}
 use borrow.Rule.Slice.PartMut.{mid_of, put_mid}
 use Rattle.oc_shelf.specs.Writing.Parts.{Laid}
 use Rattle.oc_outside.specs.Windows.{IsFilled}

@@ -1,7 +1,6 @@
 -- Bytes that are taken, a bit for each (our profile).
 use Rattle.std.specs.Prelude.{◌≡◌, ℕ, ◌*◌, ◌/◌, ◌%◌, ◌<◌, ◌≤◌, Bool, ◌&&◌, nat_eq, nat_le, nat_lt, true, false, List, length, Option, Some, slice_index_or}
-use Rattle.std.specs.Int.{bit_at}
-use Rattle.std.specs.Option.{option_map_or}
+use Rattle.std.specs.{Int.{bit_at}, Option.{option_map_or}}
 use Rattle.oc_shelf.specs.Reading.Firsts.{any_upto}
 
 -- how many bytes the words cover

@@ -1,9 +1,6 @@
 -- Entries in the order of their places (our profile).
-use Rattle.std.specs.declared.cmp.Ordering.{Ordering}
-use Rattle.std.specs.Ordering.{nat_cmp, ordering_then}
+use Rattle.std.specs.{declared.cmp.Ordering.{Ordering}, Ordering.{nat_cmp, ordering_then}, Prelude.{ℕ, Bool, List, nat_eq}, List.{list_any}}
 use Rattle.oc_shelf.specs.declared.reading.order.PlacedEntry.{PlacedEntry}
-use Rattle.std.specs.Prelude.{ℕ, Bool, List, nat_eq}
-use Rattle.std.specs.List.{list_any}
 
 -- by the place, and at one place by the index
 abbrev pub by_place : PlacedEntry → PlacedEntry → Ordering

@@ -1,6 +1,5 @@
 -- What is at each number below a count (our profile).
-use Rattle.std.specs.Prelude.{◌≡◌, ℕ, ◌<◌, List, length, slice_index_or, Option, None, Some, if◌then◌else◌, bytes_eq}
-use Rattle.std.specs.List.{position_or_len}
+use Rattle.std.specs.{Prelude.{◌≡◌, ℕ, ◌<◌, List, length, slice_index_or, Option, None, Some, if◌then◌else◌, bytes_eq}, List.{position_or_len}}
 use Rattle.oc_base.specs.Strings.{is_given}
 
 -- the slots have what a function gives to the numbers below n

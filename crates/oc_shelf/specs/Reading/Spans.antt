@@ -1,7 +1,5 @@
 -- Spans of bytes that are taken one after another, in any order (our profile).
-use Rattle.std.specs.Prelude.{◌≡◌, ℕ, ◌<◌, ◌≤◌, Bool, ◌&&◌, nat_lt, List, Option, Some}
-use Rattle.std.specs.Map.{lookup}
-use Rattle.std.specs.Ordering.{is_eq, nat_cmp}
+use Rattle.std.specs.{Prelude.{◌≡◌, ℕ, ◌<◌, ◌≤◌, Bool, ◌&&◌, nat_lt, List, Option, Some}, Map.{lookup}, Ordering.{is_eq, nat_cmp}}
 
 -- where spans end, by where they begin
 abbrev pub end_at : List (ℕ × ℕ) → ℕ → Option ℕ

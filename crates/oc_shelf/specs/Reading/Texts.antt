@@ -1,6 +1,5 @@
 -- Texts that end at a NUL (our profile).
-use Rattle.std.specs.Prelude.{ℕ, eqb, nat_le, if◌then◌else◌, List, [], ◌∷◌, length, drop, Option, Some, None}
-use Rattle.std.specs.Option.{option_map}
+use Rattle.std.specs.{Prelude.{ℕ, eqb, nat_le, if◌then◌else◌, List, [], ◌∷◌, length, drop, Option, Some, None}, Option.{option_map}}
 
 -- the bytes up to the first NUL, if there is one
 abbrev pub text_within : List ℕ → Option (List ℕ)

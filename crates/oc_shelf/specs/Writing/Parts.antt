@@ -1,7 +1,6 @@
 -- Files made of parts that lie one after another: where each part begins, and the bytes of the whole (our profile).
 use Rattle.std.specs.Prelude.{◌≡◌, ℕ, ◌+◌, ◌-◌, ◌%◌, ◌≤◌, Bool, List, [], ◌∷◌, ◌++◌, length, replicate, find, flat_map, map, slice_index_or}
-use Rattle.std.specs.List.{AllByRecursion}
-use Rattle.std.specs.Option.{option_map_or}
+use Rattle.std.specs.{List.{AllByRecursion}, Option.{option_map_or}}
 use Rattle.oc_outside.specs.Windows.{IsFilled}
 use Rattle.oc_shelf.specs.declared.writing.layout.Layout.{Layout}
 

@@ -1,11 +1,7 @@
 -- The job of the words is done.
 use Rattle.std.proofs.Common.{rules, ◌≡◌, Result, Ok}
-use Rattle.oc_words.specs.declared.job.Job.{Job}
-use Rattle.oc_words.specs.declared.job.Job.TheVariants.{Convert, Symbols, Make}
-use Rattle.oc_words.specs.Faults.{BadWord, bad}
-use Rattle.oc_words.specs.Jobs.{job_of}
-use Rattle.objconv.proofs.Counted.{low_job}
-use Rattle.objconv.proofs.Did.{does_same, memory_does}
+use Rattle.oc_words.specs.{declared.job.Job.{Job}, declared.job.Job.TheVariants.{Convert, Symbols, Make}, Faults.{BadWord, bad}, Jobs.{job_of}}
+use Rattle.objconv.proofs.{Counted.{low_job}, Did.{does_same, memory_does}}
 use Rattle.objconv.proofs.command.run.Goals as goal
 
 pub returns-in-Ok-Convert : goal.returns-in-Ok-Convert

@@ -1,5 +1,4 @@
-use Rattle.oc_algebra.proofs.FieldLaws.{written_law, read_law}
-use Rattle.oc_algebra.proofs.FoldLaws.{fits_signed-is}
+use Rattle.oc_algebra.proofs.{FieldLaws.{written_law, read_law}, FoldLaws.{fits_signed-is}}
 use Rattle.oc_algebra.proofs.exact.fields_are_exact.Goals as goal
 
 pub returns : goal.returns

@@ -1,10 +1,8 @@
 -- What was done of the words.
 use Rattle.std.proofs.Common.{rules, ◌≡◌, ℕ, ◌<◌, ◌≤◌, List, length, refl, sym, subst, ◌∙◌, arith}
 use Rattle.oc_runs.specs.States.{State, state_of}
-use Rattle.oc_batch.specs.Batches.{HasJobs}
-use Rattle.oc_batch.specs.Runs.{AreRun}
-use Rattle.oc_batch.proofs.BatchLaws.{named, refused_list, run_list, wordless}
-use Rattle.oc_batch.proofs.RunLaws.{same_state}
+use Rattle.oc_batch.specs.{Batches.{HasJobs}, Runs.{AreRun}}
+use Rattle.oc_batch.proofs.{BatchLaws.{named, refused_list, run_list, wordless}, RunLaws.{same_state}}
 use Rattle.oc_batch.proofs.batching.run_batch_by.Goals as goal
 
 pub returns-then-count-ne1 : goal.returns-then-count-ne1

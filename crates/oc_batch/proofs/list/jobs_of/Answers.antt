@@ -1,8 +1,7 @@
 -- One more line, and all of them.
 use Rattle.std.proofs.Common.{ℕ, ◌++◌, [], ◌∷◌, List, length, map, eqb, rules, sym, ap, ◌∙◌, lit<, arith}
 use Rattle.std.specs.List.{filter, slice_split}
-use Rattle.std.proofs.lemmas.Iterator.Consumers.{YieldsList-turn, YieldsList-end}
-use Rattle.std.proofs.lemmas.Iterator.Splits.{YieldsList-from_str_split}
+use Rattle.std.proofs.lemmas.{Iterator.Consumers.{YieldsList-turn, YieldsList-end}, Iterator.Splits.{YieldsList-from_str_split}}
 use denote.Ref.{Bor}
 use Rattle.oc_batch.specs.Lists.{is_filled, jobs_in, words_in}
 use Rattle.oc_batch.proofs.ListLaws.{map_twice, pieces_more, short_piece, short_pieces}

@@ -1,9 +1,7 @@
 -- One more piece, and all of them.
 use Rattle.std.proofs.Common.{ℕ, ◌++◌, [], ◌∷◌, List, length, map, eqb, rules, sym, ap, ◌∙◌, lit<, arith}
 use Rattle.std.specs.List.{filter}
-use Rattle.std.proofs.lemmas.List.{length-map}
-use Rattle.std.proofs.lemmas.Iterator.Consumers.{YieldsList-turn, YieldsList-end}
-use Rattle.std.proofs.lemmas.Iterator.Splits.{YieldsList-from_str_split}
+use Rattle.std.proofs.lemmas.{List.{length-map}, Iterator.Consumers.{YieldsList-turn, YieldsList-end}, Iterator.Splits.{YieldsList-from_str_split}}
 use denote.Ref.{Bor}
 use Rattle.oc_batch.specs.Lists.{is_filled}
 use Rattle.oc_batch.proofs.ListLaws.{few_pieces, filter_bound, pieces_more}

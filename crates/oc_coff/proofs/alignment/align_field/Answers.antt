@@ -1,8 +1,7 @@
 -- The first power of two that is met is the least.
 use Rattle.std.proofs.Common.{◌≡◌, ℕ, suc, ◌+◌, ◌-◌, ◌*◌, ◌<◌, ◌%◌, ◌^◌, Bool, false, cond, eqb, Some, sym, ◌∙◌, ap, arith, eq-eqb}
 use Rattle.std.proofs.lemmas.Bool.{ne_eqb}
-use Rattle.std.proofs.Math.Pow.{pow-lt}
-use Rattle.std.proofs.Math.Nat.{mod-eq_of_lt}
+use Rattle.std.proofs.{Math.Pow.{pow-lt}, Math.Nat.{mod-eq_of_lt}}
 use Rattle.std.specs.Option.{unwrap_or}
 use Rattle.oc_linking.specs.Numbers.{first_from}
 use Rattle.oc_linking.proofs.Upto.{first_from_step}

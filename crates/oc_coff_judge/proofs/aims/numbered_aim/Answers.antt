@@ -1,7 +1,6 @@
 -- A slot says which entries are symbols.
 use Rattle.std.proofs.Common.{◌∙◌, sym}
-use Rattle.oc_coff_judge.proofs.AimLemmas.{aim_none, aim_there}
-use Rattle.oc_coff_judge.proofs.StartLemmas.{IsStart, start_there}
+use Rattle.oc_coff_judge.proofs.{AimLemmas.{aim_none, aim_there}, StartLemmas.{IsStart, start_there}}
 use Rattle.oc_coff_judge.proofs.aims.numbered_aim.Goals as goal
 
 pub aim_of-requires-clause-symbol : goal.aim_of-requires-clause-symbol

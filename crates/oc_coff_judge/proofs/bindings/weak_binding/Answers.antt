@@ -1,12 +1,8 @@
 -- A weak external without a fault tags a symbol.
-use Rattle.oc_coff.specs.Files.{tables_in}
+use Rattle.oc_coff.specs.{Files.{tables_in}, Entries.{Entry}, Sections.{sections_in}, Symbols.{fallback_by}}
 use Rattle.std.proofs.Common.{Option, sym, ◌∙◌, ap}
 use Rattle.std.specs.Option.{option_and_then, option_map}
-use Rattle.oc_linking.specs.declared.terms.Binding.TheVariants.{Weak}
-use Rattle.oc_linking.specs.declared.terms.Fallback.{Fallback}
-use Rattle.oc_coff.specs.Entries.{Entry}
-use Rattle.oc_coff.specs.Sections.{sections_in}
-use Rattle.oc_coff.specs.Symbols.{fallback_by}
+use Rattle.oc_linking.specs.{declared.terms.Binding.TheVariants.{Weak}, declared.terms.Fallback.{Fallback}}
 use Rattle.oc_coff_judge.proofs.TagLemmas.{tag_there}
 use Rattle.oc_coff_judge.proofs.bindings.weak_binding.Goals as goal
 

@@ -4,8 +4,7 @@ use Rattle.std.proofs.Common.{◌≡◌, ℕ, ◌<◌, ◌++◌, [], ◌∷◌, 
 use Rattle.std.proofs.Math.Seq.{take-length}
 use Rattle.std.proofs.lemmas.List.{take_more}
 use Rattle.oc_shelf.specs.Reading.Slots.{AreSlots}
-use Rattle.oc_coff_judge.proofs.NumberLemmas.{all_at}
-use Rattle.oc_coff_judge.proofs.StartLemmas.{start_among, starts_end, starts_more, starts_none}
+use Rattle.oc_coff_judge.proofs.{NumberLemmas.{all_at}, StartLemmas.{start_among, starts_end, starts_more, starts_none}}
 use Rattle.oc_coff_judge.proofs.found.starts_of.Goals as goal
 
 pub loop-i-init : goal.loop-i-init

@@ -1,8 +1,7 @@
 -- The first section whose relocations have a fault stops the reading.
 use Rattle.oc_coff.specs.Files.{tables_in}
 use Rattle.std.proofs.Common.{◌≡◌, ℕ, ◌<◌, ◌∙◌, length, None, Option, sym, subst, arith}
-use Rattle.oc_base.specs.declared.fault.Fault.{Fault}
-use Rattle.oc_base.specs.Stops.{IsStop}
+use Rattle.oc_base.specs.{declared.fault.Fault.{Fault}, Stops.{IsStop}}
 use Rattle.oc_linking.specs.Numbers.{first_upto}
 use Rattle.oc_shelf.proofs.ReadingLaws.StageLemmas.{clean_more, stops_at}
 use Rattle.oc_coff_judge.specs.Relocs.{relocs_fault}

@@ -1,7 +1,6 @@
 -- The faults of a section that is kept are those of its table.
 use Rattle.std.proofs.Common.{◌∙◌, Option, sym, subst}
-use Rattle.oc_base.specs.declared.fault.Fault.{Fault}
-use Rattle.oc_base.specs.Stops.{IsStop}
+use Rattle.oc_base.specs.{declared.fault.Fault.{Fault}, Stops.{IsStop}}
 use Rattle.oc_coff_judge.proofs.KeptTables.{dropped_faults, kept_faults, no_faults}
 use Rattle.oc_coff_judge.proofs.judging.check_relocs_of.Goals as goal
 

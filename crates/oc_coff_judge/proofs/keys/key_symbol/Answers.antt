@@ -1,9 +1,7 @@
 -- The second symbol is the entry that its slot says.
-use Rattle.oc_coff.specs.Files.{tables_in}
+use Rattle.oc_coff.specs.{Files.{tables_in}, declared.constants.TheConstants.{IMAGE_SYM_CLASS_EXTERNAL}, Entries.{is_class}}
 use Rattle.std.proofs.Common.{◌+◌, ◌<◌, true, false, length, sym, ◌∙◌, ap, arith, eq-eqb}
 use Rattle.std.proofs.lemmas.Bool.{ne_eqb}
-use Rattle.oc_coff.specs.declared.constants.TheConstants.{IMAGE_SYM_CLASS_EXTERNAL}
-use Rattle.oc_coff.specs.Entries.{is_class}
 use Rattle.oc_coff_judge.proofs.OwnedLemmas.{IsOwner, owner_is, second_is}
 use Rattle.oc_coff_judge.proofs.keys.key_symbol.Goals as goal
 

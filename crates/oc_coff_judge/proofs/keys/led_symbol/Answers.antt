@@ -1,10 +1,7 @@
 -- A section of which any copy is kept is there.
-use Rattle.oc_coff.specs.Files.{tables_in}
+use Rattle.oc_coff.specs.{Files.{tables_in}, declared.constants.TheConstants.{IMAGE_COMDAT_SELECT_ANY}, Comdat.{definition_in, selects}}
 use Rattle.std.proofs.Common.{◌≡◌, true, sym, ◌∙◌, ap}
-use Rattle.oc_coff.specs.declared.constants.TheConstants.{IMAGE_COMDAT_SELECT_ANY}
-use Rattle.oc_coff.specs.Comdat.{definition_in, selects}
-use Rattle.oc_coff_judge.proofs.LedLemmas.{defined_low}
-use Rattle.oc_coff_judge.proofs.OwnedLemmas.{selected_some}
+use Rattle.oc_coff_judge.proofs.{LedLemmas.{defined_low}, OwnedLemmas.{selected_some}}
 use Rattle.oc_coff_judge.proofs.keys.led_symbol.Goals as goal
 
 pub key_symbol-requires-clause-low : goal.key_symbol-requires-clause-low

@@ -3,8 +3,7 @@ use Rattle.oc_coff.specs.Files.{tables_in}
 use Rattle.std.proofs.Common.{◌≡◌, ℕ, ◌<◌, ◌++◌, [], ◌∷◌, List, length, take, sym, ◌∙◌, ap, subst, arith}
 use Rattle.std.proofs.Math.Seq.{take-length}
 use Rattle.std.proofs.lemmas.List.{take_more}
-use Rattle.oc_coff_judge.proofs.NumberLemmas.{all_at}
-use Rattle.oc_coff_judge.proofs.OwnerLemmas.{IsOwning, owning_none, owning_more, owning_end}
+use Rattle.oc_coff_judge.proofs.{NumberLemmas.{all_at}, OwnerLemmas.{IsOwning, owning_none, owning_more, owning_end}}
 use Rattle.oc_coff_judge.proofs.owners.owners_of.Goals as goal
 
 pub loop-i-init : goal.loop-i-init

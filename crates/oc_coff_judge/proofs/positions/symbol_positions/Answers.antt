@@ -3,10 +3,8 @@ use Rattle.oc_coff.specs.Files.{tables_in}
 use Rattle.std.proofs.Common.{◌∙◌, length, refl, ap, arith}
 use Rattle.std.proofs.lemmas.List.{length-map}
 use Rattle.oc_shelf.proofs.ReadingLaws.CollectedLemmas.{length-collected}
-use Rattle.oc_coff_judge.specs.Led.{symbol_at}
-use Rattle.oc_coff_judge.specs.Numbered.{entry_by}
-use Rattle.oc_coff_judge.proofs.NumberLemmas.{all_at}
-use Rattle.oc_coff_judge.proofs.SymbolPositions.{standing_step, symbols_few}
+use Rattle.oc_coff_judge.specs.{Led.{symbol_at}, Numbered.{entry_by}}
+use Rattle.oc_coff_judge.proofs.{NumberLemmas.{all_at}, SymbolPositions.{standing_step, symbols_few}}
 use Rattle.oc_coff_judge.proofs.positions.symbol_positions.Goals as goal
 
 pub place-position-requires-clause-room : goal.place-position-requires-clause-room

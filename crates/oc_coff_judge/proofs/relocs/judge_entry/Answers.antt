@@ -1,20 +1,13 @@
 -- An entry that says something is judged by its own conditions, and then by the fields before.
-use Rattle.oc_coff.specs.Files.{CoffFile}
+use Rattle.oc_coff.specs.{Files.{CoffFile}, declared.relocation.Relocation.{Relocation}, Fields.{says_nothing}}
 use Rattle.std.proofs.Common.{◌≡◌, ℕ, ◌+◌, ◌<◌, ◌∙◌, Bool, false, cond, None, Option, Some, refl, sym, ap, subst, arith}
 use Rattle.std.specs.Option.{option_map_or}
-use Rattle.oc_base.specs.declared.code.Code.TheVariants.{Overlap}
-use Rattle.oc_base.specs.declared.fault.Fault.{Fault}
+use Rattle.oc_base.specs.{declared.code.Code.TheVariants.{Overlap}, declared.fault.Fault.{Fault}, declared.format.Word.{Word}}
 use Rattle.oc_linking.specs.Numbers.{or_else}
-use Rattle.oc_shelf.specs.Reading.Firsts.{any_upto}
-use Rattle.oc_shelf.specs.Reading.Spans.{meets}
+use Rattle.oc_shelf.specs.{Reading.Firsts.{any_upto}, Reading.Spans.{meets}}
 use Rattle.oc_shelf.proofs.ReadingLaws.BitmapLemmas.{met_in_upto}
-use Rattle.oc_coff.specs.declared.relocation.Relocation.{Relocation}
-use Rattle.oc_coff.specs.Fields.{says_nothing}
-use Rattle.oc_base.specs.declared.format.Word.{Word}
-use Rattle.oc_coff_judge.specs.declared.relocs.Table.{Table}
-use Rattle.oc_coff_judge.specs.Relocs.{bytes_for, meets_upto, reloc_fault, span_of, width_of}
-use Rattle.oc_coff_judge.proofs.AimLemmas.{aim_anywhere}
-use Rattle.oc_coff_judge.proofs.JudgedRelocs.{busy_told, idle_entry, idle_span}
+use Rattle.oc_coff_judge.specs.{declared.relocs.Table.{Table}, Relocs.{bytes_for, meets_upto, reloc_fault, span_of, width_of}}
+use Rattle.oc_coff_judge.proofs.{AimLemmas.{aim_anywhere}, JudgedRelocs.{busy_told, idle_entry, idle_span}}
 use Rattle.oc_coff_judge.proofs.TakenBytes.{HasRow, field_in_room, has_row, span_is, taken_more, taken_same, wide_field}
 use Rattle.oc_coff_judge.proofs.relocs.judge_entry.Goals as goal
 

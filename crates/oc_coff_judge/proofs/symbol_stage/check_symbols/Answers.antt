@@ -1,15 +1,11 @@
 -- A symbol with a fault stops the stage.
-use Rattle.oc_coff.specs.Files.{tables_in}
+use Rattle.oc_coff.specs.{Files.{tables_in}, Entries.{entries_in}, SymbolFaults.{symbol_stage}}
 use Rattle.std.proofs.Common.{◌≡◌, ℕ, ◌<◌, ◌∙◌, length, None, sym, subst, arith}
-use Rattle.oc_linking.specs.FirstFault.{fault_of}
-use Rattle.oc_linking.specs.Numbers.{first_upto}
+use Rattle.oc_linking.specs.{FirstFault.{fault_of}, Numbers.{first_upto}}
 use Rattle.oc_linking.proofs.Upto.{first_upto_stop}
 use Rattle.oc_shelf.proofs.ReadingLaws.StageLemmas.{clean_more}
-use Rattle.oc_coff.specs.Entries.{entries_in}
-use Rattle.oc_coff.specs.SymbolFaults.{symbol_stage}
 use Rattle.oc_coff_judge.specs.Numbered.{AreNumbers}
-use Rattle.oc_coff_judge.proofs.JudgedSymbols.{judged_fault, symbols_long}
-use Rattle.oc_coff_judge.proofs.NumberLemmas.{all_at}
+use Rattle.oc_coff_judge.proofs.{JudgedSymbols.{judged_fault, symbols_long}, NumberLemmas.{all_at}}
 use Rattle.oc_coff_judge.proofs.symbol_stage.check_symbols.Goals as goal
 
 pub repeat_of-requires : goal.repeat_of-requires

@@ -3,10 +3,8 @@ use Rattle.oc_coff.specs.Files.{tables_in}
 use Rattle.std.proofs.Common.{◌≡◌, ℕ, ◌<◌, length, map, take, sym, ◌∙◌, ap, subst, arith}
 use Rattle.std.proofs.Math.Seq.{take-length}
 use Rattle.oc_strings.specs.Repeats.{names_of}
-use Rattle.oc_coff_judge.specs.Classed.{public_name}
-use Rattle.oc_coff_judge.specs.Numbered.{entry_by}
-use Rattle.oc_coff_judge.proofs.JudgedSymbols.{copied, names_end, names_more}
-use Rattle.oc_coff_judge.proofs.NumberLemmas.{all_at}
+use Rattle.oc_coff_judge.specs.{Classed.{public_name}, Numbered.{entry_by}}
+use Rattle.oc_coff_judge.proofs.{JudgedSymbols.{copied, names_end, names_more}, NumberLemmas.{all_at}}
 use Rattle.oc_coff_judge.proofs.symbol_stage.public_names.Goals as goal
 
 pub public_name-requires : goal.public_name-requires

@@ -2,8 +2,7 @@
 use Rattle.oc_coff.specs.Files.{tables_in}
 use Rattle.std.proofs.Common.{◌≡◌, map, take}
 use Rattle.oc_strings.specs.Repeats.{names_of}
-use Rattle.oc_coff_judge.specs.Classed.{public_name}
-use Rattle.oc_coff_judge.specs.Numbered.{entry_by}
+use Rattle.oc_coff_judge.specs.{Classed.{public_name}, Numbered.{entry_by}}
 use Rattle.oc_coff_judge.proofs.symbol_stage.public_names.Given as goal
 
 abbrev pub invariant-loop-i : goal.invariant-loop-i

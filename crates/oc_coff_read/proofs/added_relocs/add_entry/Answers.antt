@@ -1,18 +1,14 @@
 -- An entry without a fault has a relocation, which nothing stands against.
-use Rattle.oc_coff.specs.Files.{tables_in}
+use Rattle.oc_coff.specs.{Files.{tables_in}, declared.relocation.Relocation.{Relocation}}
 use Rattle.std.proofs.Common.{◌+◌, ◌<◌, ◌≤◌, ◌∙◌, length, take, IsOk, refl, sym, ap, subst}
 use Rattle.std.specs.Option.{IsSome}
 use Rattle.std.proofs.lemmas.Result.{on_ok_weaker}
-use Rattle.oc_neutral.specs.Building.{Draft}
+use Rattle.oc_neutral.specs.{Building.{Draft}, Invariants.{AreBytes}}
 use Rattle.oc_shows.specs.Built.{HasAdded}
-use Rattle.oc_neutral.specs.Invariants.{AreBytes}
 use Rattle.oc_shows.proofs.BuiltSteps.{added_is}
-use Rattle.oc_coff.specs.declared.relocation.Relocation.{Relocation}
-use Rattle.oc_coff_read.specs.Adding.{started}
-use Rattle.oc_coff_read.specs.Given.{IsAimed, given_with, reloc_by}
+use Rattle.oc_coff_read.specs.{Adding.{started}, Given.{IsAimed, given_with, reloc_by}}
 use Rattle.oc_coff_judge.specs.Relocs.{width_of}
-use Rattle.oc_coff_read.proofs.AddedTables.{entry_aimed, entry_inside, entry_of, next_of, ready_next}
-use Rattle.oc_coff_read.proofs.MeantRelocs.{aimed_low}
+use Rattle.oc_coff_read.proofs.{AddedTables.{entry_aimed, entry_inside, entry_of, next_of, ready_next}, MeantRelocs.{aimed_low}}
 use Rattle.oc_coff_read.proofs.added_relocs.add_entry.Goals as goal
 
 pub reloc_of-r-requires-clause-there : goal.reloc_of-r-requires-clause-there

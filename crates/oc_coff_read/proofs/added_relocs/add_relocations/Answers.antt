@@ -1,12 +1,10 @@
 -- Nothing is given for no sections, and all for all.
-use Rattle.oc_coff.specs.Files.{tables_in}
+use Rattle.oc_coff.specs.{Files.{tables_in}, Sections.{carried_in}}
 use Rattle.std.proofs.Common.{◌≡◌, ℕ, length, ◌∙◌, sym, ap, arith}
 use Rattle.oc_shows.proofs.BuiltSteps.{added_same}
 use Rattle.oc_shelf.specs.Reading.Collected.{collected}
-use Rattle.oc_coff.specs.Sections.{carried_in}
-use Rattle.oc_coff_read.specs.Adding.{started}
+use Rattle.oc_coff_read.specs.{Adding.{started}, Given.{given_at, given_before}}
 use Rattle.oc_coff_judge.specs.Led.{carried_at}
-use Rattle.oc_coff_read.specs.Given.{given_at, given_before}
 use Rattle.oc_coff_read.proofs.AddedTables.{given_all}
 use Rattle.oc_coff_judge.proofs.CollectLemmas.{carried_are}
 use Rattle.oc_coff_read.proofs.added_relocs.add_relocations.Goals as goal

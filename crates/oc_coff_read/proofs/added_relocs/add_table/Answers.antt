@@ -4,8 +4,7 @@ use Rattle.std.proofs.Common.{◌≡◌, ℕ, ◌+◌, ◌∙◌, length, take, 
 use Rattle.oc_linking.specs.Keeping.{keeps}
 use Rattle.oc_neutral.specs.Invariants.{AreBytes}
 use Rattle.oc_shows.proofs.BuiltSteps.{added_same}
-use Rattle.oc_coff_read.specs.Adding.{started}
-use Rattle.oc_coff_read.specs.Given.{given_before, given_with}
+use Rattle.oc_coff_read.specs.{Adding.{started}, Given.{given_before, given_with}}
 use Rattle.oc_coff_read.proofs.AddedTables.{given_left, table_done}
 use Rattle.oc_coff_read.proofs.added_relocs.add_table.Goals as goal
 

@@ -1,7 +1,6 @@
 -- The bytes of a section lie in the file.
 use Rattle.oc_coff.specs.Files.{tables_in}
-use Rattle.oc_coff_read.proofs.AddedTables.{place_is, stored_is}
-use Rattle.oc_coff_read.proofs.BuildLemmas.{header_lies}
+use Rattle.oc_coff_read.proofs.{AddedTables.{place_is, stored_is}, BuildLemmas.{header_lies}}
 use Rattle.oc_coff_read.proofs.added_relocs.place_of.Goals as goal
 
 pub contents_of-requires : goal.contents_of-requires

@@ -1,10 +1,8 @@
 -- There are few groups, and the one that begins has the next position.
-use Rattle.oc_coff.specs.Files.{tables_in}
+use Rattle.oc_coff.specs.{Files.{tables_in}, Entries.{name_of}}
 use Rattle.std.proofs.Common.{ℕ, ◌+◌, ◌∙◌, List, length, set, Some, sym, ap, subst, arith}
 use Rattle.std.proofs.lemmas.List.{length-map}
-use Rattle.oc_neutral.specs.declared.group.Group.{Group}
-use Rattle.oc_neutral.specs.Building.{Draft}
-use Rattle.oc_coff.specs.Entries.{name_of}
+use Rattle.oc_neutral.specs.{declared.group.Group.{Group}, Building.{Draft}}
 use Rattle.oc_coff_read.specs.Built.{AreBegunGroups, keys_upto}
 use Rattle.oc_coff_judge.specs.Numbered.{entry_by}
 use Rattle.oc_coff_read.proofs.BegunLemmas.{begun_more, entry_named, group_begun, keys_few}

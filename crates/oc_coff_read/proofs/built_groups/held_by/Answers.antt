@@ -1,8 +1,7 @@
 -- The key of a section is that of the section that leads its group.
-use Rattle.oc_coff.specs.Files.{tables_in}
+use Rattle.oc_coff.specs.{Files.{tables_in}, Comdat.{led_key}}
 use Rattle.std.proofs.Common.{◌+◌, ◌∙◌, sym, ap}
 use Rattle.std.specs.Option.{option_and_then}
-use Rattle.oc_coff.specs.Comdat.{led_key}
 use Rattle.oc_coff_judge.proofs.LedLemmas.{key_led}
 use Rattle.oc_coff_read.proofs.built_groups.held_by.Goals as goal
 

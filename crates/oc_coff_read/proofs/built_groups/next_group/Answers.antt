@@ -1,8 +1,7 @@
 -- A group begins with a carried section whose group is not begun, and with no other.
-use Rattle.oc_coff.specs.Files.{tables_in}
+use Rattle.oc_coff.specs.{Files.{tables_in}, Entries.{name_of}}
 use Rattle.std.proofs.Common.{◌≡◌, ℕ, ◌∙◌, List, false, sym}
 use Rattle.oc_base.specs.Strings.{is_given}
-use Rattle.oc_coff.specs.Entries.{name_of}
 use Rattle.oc_coff_read.specs.Built.{keys_upto}
 use Rattle.oc_coff_judge.specs.Numbered.{entry_by}
 use Rattle.oc_coff_read.proofs.BegunLemmas.{keys_alone, keys_passed, none_new, one_new}

@@ -1,15 +1,11 @@
 -- A carried section without a fault passes no limit, so it is added; any other is left out.
-use Rattle.oc_coff.specs.Files.{tables_in}
+use Rattle.oc_coff.specs.{Files.{tables_in}, Sections.{section_of}, Tables.{section_table}}
 use Rattle.std.proofs.Common.{ℕ, ◌+◌, ◌∙◌, List, length, None, sym, ap, subst, arith, IsOk, refl}
 use Rattle.std.specs.Prelude.{is_some}
 use Rattle.std.proofs.lemmas.List.{length-map}
-use Rattle.oc_neutral.specs.declared.group.Group.{Group}
-use Rattle.oc_neutral.specs.declared.section.Section.{Section}
-use Rattle.oc_neutral.specs.Building.{Draft, section_added}
+use Rattle.oc_neutral.specs.{declared.group.Group.{Group}, declared.section.Section.{Section}, Building.{Draft, section_added}}
 use Rattle.oc_neutral.specs.Invariants.{HasItsBytes, IsMember}
 use Rattle.oc_shows.proofs.BuiltSteps.{added_is}
-use Rattle.oc_coff.specs.Sections.{section_of}
-use Rattle.oc_coff.specs.Tables.{section_table}
 use Rattle.oc_coff_read.specs.Built.{keys_of, sectioned}
 use Rattle.oc_coff_judge.proofs.CarriedLemmas.{section_is}
 use Rattle.oc_coff_read.proofs.BuildLemmas.{bytes_long, header_added, header_kind, header_lies, header_section, member_stored, passed_over, room}

@@ -1,9 +1,7 @@
 -- The slot of the section that leads a group has the position of its key.
 use Rattle.oc_coff.specs.Files.{tables_in}
 use Rattle.std.proofs.Common.{ℕ, sym, ◌∙◌, ap, List}
-use Rattle.std.specs.Prelude.{bytes_eq}
-use Rattle.std.specs.List.{position_or_len}
-use Rattle.std.specs.Option.{option_map}
+use Rattle.std.specs.{Prelude.{bytes_eq}, List.{position_or_len}, Option.{option_map}}
 use Rattle.oc_coff_read.specs.Built.{keys_of}
 use Rattle.oc_coff_read.proofs.BegunLemmas.{begun_at}
 use Rattle.oc_coff_read.proofs.built_sections.group_of.Goals as goal

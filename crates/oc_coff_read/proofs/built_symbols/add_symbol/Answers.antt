@@ -1,19 +1,14 @@
 -- A symbol without a fault has a name of its own, so it is added.
-use Rattle.oc_coff.specs.Files.{tables_in}
+use Rattle.oc_coff.specs.{Files.{tables_in}, Entries.{entries_in}, Symbols.{symbols_in}}
 use Rattle.std.proofs.Common.{◌+◌, ◌∙◌, IsOk, length, refl, sym, ap, subst, arith}
-use Rattle.std.proofs.lemmas.List.{length-map}
-use Rattle.std.proofs.lemmas.Option.{slice_get_within}
-use Rattle.oc_neutral.specs.Building.{Draft}
+use Rattle.std.proofs.lemmas.{List.{length-map}, Option.{slice_get_within}}
+use Rattle.oc_neutral.specs.{Building.{Draft}, Invariants.{AreBytes}}
 use Rattle.oc_shows.specs.Computed.{computed_symbol}
-use Rattle.oc_neutral.specs.Invariants.{AreBytes}
 use Rattle.oc_shows.proofs.BuiltSteps.{added_is}
 use Rattle.oc_shelf.specs.Reading.Collected.{collected}
 use Rattle.oc_shelf.proofs.ReadingLaws.CollectedLemmas.{length-collected}
-use Rattle.oc_coff.specs.Entries.{entries_in}
-use Rattle.oc_coff.specs.Symbols.{symbols_in}
-use Rattle.oc_coff_judge.specs.Led.{symbol_at}
+use Rattle.oc_coff_judge.specs.{Led.{symbol_at}, Numbered.{entry_by}}
 use Rattle.oc_coff_read.specs.Built.{symboled}
-use Rattle.oc_coff_judge.specs.Numbered.{entry_by}
 use Rattle.oc_coff_read.proofs.AddedSymbols.{can_symbol, symbol_left}
 use Rattle.oc_coff_judge.proofs.SymbolPositions.{symbols_few}
 use Rattle.oc_coff_read.proofs.built_symbols.add_symbol.Goals as goal

@@ -1,8 +1,7 @@
 -- What is built can be finished, and what is read shows the file.
 use Rattle.std.proofs.Common.{sym, subst, arith}
 use Rattle.oc_neutral.specs.Invariants.{AreBytes, IsDraft}
-use Rattle.oc_shows.specs.Readable.{IsReadable}
-use Rattle.oc_shows.specs.Shows.{Shows}
+use Rattle.oc_shows.specs.{Readable.{IsReadable}, Shows.{Shows}}
 use Rattle.oc_coff.specs.Rules.{dialect_by}
 use Rattle.oc_coff_read.proofs.ShownFile.{read_complete, read_readable, read_shows, stages_clean, start}
 use Rattle.oc_coff_judge.proofs.SymbolPositions.{entries_few}

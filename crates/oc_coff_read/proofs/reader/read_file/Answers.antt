@@ -1,8 +1,7 @@
 -- The fault of a file is that of its header, or of the rest, and what is read without one shows the file.
 use Rattle.oc_coff.specs.Files.{CoffFile}
 use Rattle.std.proofs.Common.{Option, ◌∙◌, sym, ap, subst}
-use Rattle.oc_base.specs.declared.fault.Fault.{Fault}
-use Rattle.oc_base.specs.Stops.{IsStop}
+use Rattle.oc_base.specs.{declared.fault.Fault.{Fault}, Stops.{IsStop}}
 use Rattle.oc_linking.specs.FirstFault.{first_fault}
 use Rattle.oc_coff_judge.specs.Relocs.{rest_stages}
 use Rattle.oc_coff_read.proofs.JudgedFiles.{header_clean, header_stops}

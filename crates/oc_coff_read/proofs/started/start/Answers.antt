@@ -1,11 +1,10 @@
 -- All carried sections are added before the first symbol.
-use Rattle.oc_coff.specs.Files.{tables_in}
+use Rattle.oc_coff.specs.{Files.{tables_in}, Forms.{format_by}}
 use Rattle.std.proofs.Common.{List, [], map, sym, ◌∙◌, ap}
 use Rattle.oc_linking.specs.Parts as parts
 use Rattle.oc_neutral.specs.Building.{empty_draft}
 use Rattle.oc_coff_read.proofs.StartedFile.{shape_is}
 use Rattle.oc_shows.specs.Started.{groups_by, plain_draft, stored_section}
-use Rattle.oc_coff.specs.Forms.{format_by}
 use Rattle.oc_coff_read.specs.Built.{keys_of}
 use Rattle.oc_coff_judge.proofs.CollectLemmas.{sections_are}
 use Rattle.oc_coff_read.proofs.started.start.Goals as goal

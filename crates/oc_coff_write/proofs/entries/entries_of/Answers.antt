@@ -2,17 +2,13 @@
 use Rattle.std.proofs.Common.{◌≤◌, length, map, ◌∙◌, ap, sym, arith}
 use Rattle.oc_coff.specs.Forms.{shape_of}
 use Rattle.std.specs.Option.{is_some}
-use Rattle.std.proofs.lemmas.List.{length-map}
-use Rattle.std.proofs.lemmas.Option.{slice_get-get_or}
-use Rattle.oc_coff_write.specs.FormFor.{form_for}
+use Rattle.std.proofs.lemmas.{List.{length-map}, Option.{slice_get-get_or}}
+use Rattle.oc_coff_write.specs.{FormFor.{form_for}, Entries.{entry_bytes}}
 use Rattle.oc_target.proofs.Giving.{more_given, flat_step}
-use Rattle.oc_coff_file.specs.Lines.{lines_of}
-use Rattle.oc_coff_file.specs.Canonical.{line_rows}
+use Rattle.oc_coff_file.specs.{Lines.{lines_of}, Canonical.{line_rows}}
 use Rattle.oc_coff_file.proofs.PartLaws.{length-entry_rows}
-use Rattle.oc_coff_write.specs.Entries.{entry_bytes}
 use Rattle.oc_coff_write.specs.declared.lines.Line.TheVariants as line
-use Rattle.oc_coff_write.proofs.EntryLemmas.{all_rows}
-use Rattle.oc_coff_write.proofs.LineLemmas.{line_listed}
+use Rattle.oc_coff_write.proofs.{EntryLemmas.{all_rows}, LineLemmas.{line_listed}}
 use Rattle.oc_coff_write.proofs.entries.entries_of.Goals as goal
 
 pub add_line-requires-clause-listed : goal.add_line-requires-clause-listed

@@ -1,10 +1,8 @@
 use Rattle.std.proofs.Common.{◌≡◌, ◌+◌, ◌≤◌, ◌++◌, length, map}
 use Rattle.oc_coff.specs.Forms.{shape_of}
 use Rattle.std.specs.Prelude.{drop, flat_map}
-use Rattle.oc_coff_write.specs.FormFor.{form_for}
-use Rattle.oc_coff_file.specs.Lines.{lines_of}
-use Rattle.oc_coff_file.specs.Canonical.{line_rows}
-use Rattle.oc_coff_write.specs.Entries.{entry_bytes}
+use Rattle.oc_coff_write.specs.{FormFor.{form_for}, Entries.{entry_bytes}}
+use Rattle.oc_coff_file.specs.{Lines.{lines_of}, Canonical.{line_rows}}
 use Rattle.oc_coff_write.proofs.entries.entries_of.Given as goal
 
 -- the entries so far, and those that are left; no more names were passed than lines

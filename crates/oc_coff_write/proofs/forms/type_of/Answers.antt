@@ -1,10 +1,8 @@
 -- The format has a row for the relocation, so looking it up does not fail.
 use Rattle.std.proofs.Common.{Option, sym, ◌∙◌, ap}
-use Rattle.std.specs.Prelude.{is_err}
-use Rattle.std.specs.Option.{option_map}
+use Rattle.std.specs.{Prelude.{is_err}, Option.{option_map}}
 use Rattle.std.proofs.lemmas.Bool.{true≢false}
-use Rattle.oc_neutral.specs.Rows.{Row}
-use Rattle.oc_neutral.specs.Spelling.{numbers_in, spelling_of}
+use Rattle.oc_neutral.specs.{Rows.{Row}, Spelling.{numbers_in, spelling_of}}
 use Rattle.oc_target.specs.Lookup.{answer_of}
 use Rattle.oc_coff_write.proofs.forms.type_of.Goals as goal
 

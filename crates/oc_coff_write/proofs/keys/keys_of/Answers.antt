@@ -1,7 +1,6 @@
 use Rattle.std.proofs.Common.{◌≡◌, ◌+◌, ◌<◌, ◌≤◌, cond, false, Some, None, length, ◌∙◌, ap, sym, subst, arith}
-use Rattle.std.specs.Option.{option_or, option_map_or}
+use Rattle.std.specs.{Option.{option_or, option_map_or}, Prelude.{nat_eq, take}}
 use Rattle.std.proofs.lemmas.List.{take_all}
-use Rattle.std.specs.Prelude.{nat_eq, take}
 use Rattle.oc_coff_write.specs.Keys.{first_made, keyed_at}
 use Rattle.oc_coff_write.proofs.KeyLemmas.{first_more}
 use Rattle.oc_coff_write.proofs.keys.keys_of.Goals as goal

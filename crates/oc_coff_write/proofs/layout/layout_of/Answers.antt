@@ -1,9 +1,8 @@
 -- Each part has the size that the canonical file gives it, and ends within 32 bits.
 use Rattle.std.proofs.Common.{◌+◌, ◌*◌, List, [], ◌∷◌, ◌++◌, length, sym, ◌∙◌, ap, subst, arith, ◌≡◌}
 use Rattle.oc_coff.specs.Forms.{header_size, shape_of, symbol_size}
-use Rattle.oc_coff_file.specs.Lines.{entry_count}
+use Rattle.oc_coff_file.specs.{Lines.{entry_count}, Layout.{Part, FileHead, SectionHeads, SymbolTable, StringTable, part_size}}
 use Rattle.oc_neutral.specs.Objects.{Object}
-use Rattle.oc_coff_file.specs.Layout.{Part, FileHead, SectionHeads, SymbolTable, StringTable, part_size}
 use Rattle.oc_coff_file.proofs.CodedLaws.{for_coff}
 use Rattle.oc_shelf.specs.Writing.Parts.{behind}
 use Rattle.oc_plans.proofs.PlacedLemmas.{none_laid}

@@ -1,6 +1,5 @@
 use Rattle.std.proofs.Common.{◌≡◌, ◌++◌, map, Some}
-use Rattle.std.specs.Prelude.{flat_map}
-use Rattle.std.specs.List.{enumerate_from}
+use Rattle.std.specs.{Prelude.{flat_map}, List.{enumerate_from}}
 use Rattle.oc_coff_file.specs.Lines.{section_lines}
 use Rattle.oc_coff_write.specs.Lines.{lines_in}
 use Rattle.oc_coff_write.proofs.LineLemmas.{sections_left}

@@ -2,8 +2,7 @@
 use Rattle.std.proofs.Common.{◌≡◌, sym, ◌∙◌, ap, subst}
 use Rattle.oc_neutral.specs.Objects.{Object}
 use Rattle.oc_coff_file.specs.Layout.{parts_of}
-use Rattle.oc_coff_write.specs.Bodies.{raws_in}
-use Rattle.oc_coff_write.specs.LaidParts.{AreLaid}
+use Rattle.oc_coff_write.specs.{Bodies.{raws_in}, LaidParts.{AreLaid}}
 use Rattle.oc_coff_write.proofs.planning.made_of.Goals as goal
 
 pub returns-clause-made : goal.returns-clause-made

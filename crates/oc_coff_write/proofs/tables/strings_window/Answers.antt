@@ -1,8 +1,7 @@
 -- The text fills what the size leaves of the buffer.
 use Rattle.std.proofs.Common.{◌≡◌, ℕ, ◌+◌, ◌-◌, ◌≤◌, List, length, sym, ◌∙◌, ap, subst, arith}
 use borrow.Rule.Slice.PartMut.{mid_of}
-use Rattle.oc_base.specs.Numbers.{bytes_of_number}
-use Rattle.oc_base.specs.Strings.{table_text}
+use Rattle.oc_base.specs.{Numbers.{bytes_of_number}, Strings.{table_text}}
 use Rattle.oc_outside.specs.Windows.{IsFilled}
 use Rattle.oc_shelf.proofs.WritingLaws.WindowLemmas.{filled_long, filled_rest}
 use Rattle.oc_coff_write.proofs.tables.strings_window.Goals as goal

@@ -1,17 +1,12 @@
 use Rattle.std.proofs.Common.{◌≡◌, None, sym, ◌∙◌, ap, subst}
 use Rattle.std.proofs.lemmas.Result.{IfErr-weaker, err_from_is_err_and}
-use Rattle.oc_base.specs.Formats.{word_for}
-use Rattle.oc_base.specs.Stops.{IsStop}
-use Rattle.oc_neutral.specs.Objects.{Object}
-use Rattle.oc_neutral.specs.Dialects.{Dialect}
+use Rattle.oc_base.specs.{Formats.{word_for}, Stops.{IsStop}}
+use Rattle.oc_neutral.specs.{Objects.{Object}, Dialects.{Dialect}}
 use Rattle.oc_shows.specs.Shows.{Shows}
 use Rattle.oc_target.specs.Fitted.{first_unfit}
-use Rattle.oc_names.specs.Wishes.{Wishes}
-use Rattle.oc_names.specs.Edited.{edited}
-use Rattle.oc_names.specs.Kept.{keep_for}
+use Rattle.oc_names.specs.{Wishes.{Wishes}, Edited.{edited}, Kept.{keep_for}}
 use Rattle.oc_convert.specs.Refusals.{kept_of_file, first_refusal}
-use Rattle.oc_convert.proofs.Firsts.{edit_stands, refused_by_object, refused_by_edited}
-use Rattle.oc_convert.proofs.Ready.{can_fit, if_ready}
+use Rattle.oc_convert.proofs.{Firsts.{edit_stands, refused_by_object, refused_by_edited}, Ready.{can_fit, if_ready}}
 use Rattle.oc_convert.proofs.steps.ready.Goals as goal
 
 -- src/steps.rt:105:19

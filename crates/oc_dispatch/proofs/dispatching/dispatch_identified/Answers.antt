@@ -3,9 +3,8 @@ use Rattle.std.proofs.Common.{ap}
 use Rattle.std.proofs.lemmas.Result.{IfOk-weaker}
 use Rattle.oc_base.specs.declared.format.Word.TheVariants.{W32, W64}
 use Rattle.oc_coff.specs.Rules.{coff_dialect}
-use Rattle.oc_elf.specs.declared.class.ElfClass.TheVariants.{Class32, Class64, Big32, Big64}
+use Rattle.oc_elf.specs.{declared.class.ElfClass.TheVariants.{Class32, Class64, Big32, Big64}, Elf.{elf_dialect}}
 use Rattle.oc_coff.specs.declared.form.CoffForm.TheVariants as form
-use Rattle.oc_elf.specs.Elf.{elf_dialect}
 use Rattle.oc_macho.specs.Rules.{mach_dialect}
 use Rattle.oc_omf.specs.Rules.{omf_dialect}
 use Rattle.oc_dispatch.specs.Built.{built, reader_of}

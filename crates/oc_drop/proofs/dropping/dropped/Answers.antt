@@ -1,17 +1,11 @@
 use Rattle.std.proofs.Common.{true, Ok, ◌≡◌, Bool, List, Option, None, length, sym, ◌∙◌, ap, subst}
 use Rattle.std.specs.List.{list_all}
-use Rattle.oc_drop.proofs.NothingDropped.{all_keep, dropped_same}
-use Rattle.std.proofs.lemmas.Result.{err_from_is_err_and}
-use Rattle.oc_base.specs.declared.fault.Fault.{Fault}
-use Rattle.oc_base.specs.Stops.{IsStop}
+use Rattle.oc_drop.proofs.{NothingDropped.{all_keep, dropped_same}, Detached.{detached}, StepLaws.{refused_first, refused_second, step_clean, step_refused}}
+use Rattle.std.proofs.lemmas.{Result.{err_from_is_err_and}, List.{length-map}}
+use Rattle.oc_base.specs.{declared.fault.Fault.{Fault}, Stops.{IsStop}}
 use Rattle.oc_linking.specs.Numbers.{or_else}
-use Rattle.oc_neutral.specs.Objects.{Object}
-use Rattle.std.proofs.lemmas.List.{length-map}
-use Rattle.oc_neutral.specs.Without.{IsDetached, without_of, left_of, symbols_stay}
-use Rattle.oc_drop.proofs.Detached.{detached}
-use Rattle.oc_drop.specs.Steps.{first_in, first_field}
-use Rattle.oc_drop.specs.Dropping.{dropped_symbol, dropped_reference, dropping_fault, sections_stay}
-use Rattle.oc_drop.proofs.StepLaws.{refused_first, refused_second, step_clean, step_refused}
+use Rattle.oc_neutral.specs.{Objects.{Object}, Without.{IsDetached, without_of, left_of, symbols_stay}}
+use Rattle.oc_drop.specs.{Steps.{first_in, first_field}, Dropping.{dropped_symbol, dropped_reference, dropping_fault, sections_stay}}
 use Rattle.oc_drop.proofs.dropping.dropped.Goals as goal
 
 pub returns-in_err-unless-clause-refused : goal.returns-in_err-unless-clause-refused

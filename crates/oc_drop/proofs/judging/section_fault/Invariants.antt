@@ -1,7 +1,6 @@
 use Rattle.std.proofs.Common.{◌≡◌}
 use Rattle.oc_chains.specs.Lists.{list_of}
-use Rattle.oc_drop.specs.Steps.{first_in}
-use Rattle.oc_drop.specs.Dropping.{dropped_reference}
+use Rattle.oc_drop.specs.{Steps.{first_in}, Dropping.{dropped_reference}}
 use Rattle.oc_drop.proofs.judging.section_fault.Given as goal
 
 -- the fields that are left have the answer

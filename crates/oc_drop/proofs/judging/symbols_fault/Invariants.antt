@@ -1,6 +1,5 @@
 use Rattle.std.proofs.Common.{◌≡◌, drop}
-use Rattle.oc_drop.specs.Steps.{first_in}
-use Rattle.oc_drop.specs.Dropping.{dropped_symbol}
+use Rattle.oc_drop.specs.{Steps.{first_in}, Dropping.{dropped_symbol}}
 use Rattle.oc_drop.proofs.judging.symbols_fault.Given as goal
 
 -- the symbols that are left have the answer

@@ -1,15 +1,9 @@
 -- The headers lie in the file.
 use Rattle.std.proofs.Common.{List, ◌∙◌, length, ap, subst, sym, arith}
 use Rattle.std.proofs.lemmas.List.FromFn.{length-map-range_with_len}
-use Rattle.oc_elf.specs.declared.ehdr.Ehdr.{Ehdr}
-use Rattle.oc_elf.specs.declared.shdr.Shdr.{Shdr}
-use Rattle.oc_elf.specs.Ehdr.{ehdr_in}
-use Rattle.oc_elf.specs.Laid.{HasHeader}
-use Rattle.oc_elf.specs.Sections.{shndx_number}
-use Rattle.oc_elf.specs.Frames.{header_of, header_at, zero_in, shdr_count}
-use Rattle.oc_elf.specs.Classes.{word_of}
-use Rattle.oc_elf.proofs.HeaderLemmas.{has_header, framed_is, frame_lies}
-use Rattle.oc_elf.proofs.CountLemmas.{size_least}
+use Rattle.oc_elf.specs.{declared.ehdr.Ehdr.{Ehdr}, declared.shdr.Shdr.{Shdr}, Ehdr.{ehdr_in}, Laid.{HasHeader}, Sections.{shndx_number}}
+use Rattle.oc_elf.specs.{Frames.{header_of, header_at, zero_in, shdr_count}, Classes.{word_of}}
+use Rattle.oc_elf.proofs.{HeaderLemmas.{has_header, framed_is, frame_lies}, CountLemmas.{size_least}}
 use Rattle.oc_elf.proofs.frame.frame_of.Goals as goal
 
 pub ehdr_of-ehdr-requires : goal.ehdr_of-ehdr-requires

@@ -2,10 +2,7 @@
 use Rattle.std.proofs.Common.{ℕ, Option, Some, None, cond, sym, ◌∙◌, ap}
 use Rattle.oc_linking.specs.Numbers.{or_else}
 use Rattle.oc_shelf.proofs.ReadingLaws.FirstsLemmas.{first_more}
-use Rattle.oc_elf.specs.declared.constants.TheConstants.{SHT_SYMTAB_SHNDX}
-use Rattle.oc_elf.specs.declared.shdr.Shdr.{Shdr}
-use Rattle.oc_elf.specs.Frames.{header_at}
-use Rattle.oc_elf.specs.Sections.{is_type}
+use Rattle.oc_elf.specs.{declared.constants.TheConstants.{SHT_SYMTAB_SHNDX}, declared.shdr.Shdr.{Shdr}, Frames.{header_at}, Sections.{is_type}}
 use Rattle.oc_elf.proofs.frame.shndx_among.Goals as goal
 
 pub loop-k-preserved : goal.loop-k-preserved

@@ -2,9 +2,7 @@
 use Rattle.std.proofs.Common.{sym, ◌∙◌}
 use Rattle.std.proofs.lemmas.Bool.{eq-eqb}
 use Rattle.oc_elf.specs.declared.constants.TheConstants.{SHT_GROUP}
-use Rattle.oc_elf_judge.proofs.GroupLemmas.{good_first}
-use Rattle.oc_elf_judge.proofs.SectionLemmas.{form_lies}
-use Rattle.oc_elf_judge.proofs.TableLemmas.{group_bytes}
+use Rattle.oc_elf_judge.proofs.{GroupLemmas.{good_first}, SectionLemmas.{form_lies}, TableLemmas.{group_bytes}}
 use Rattle.oc_elf_judge.proofs.groups.group_fault.Goals as goal
 
 pub take_members-requires-clause-lies : goal.take_members-requires-clause-lies

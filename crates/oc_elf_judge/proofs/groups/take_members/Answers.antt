@@ -2,8 +2,7 @@
 use Rattle.std.proofs.Common.{◌≡◌, ℕ, ◌+◌, ◌<◌, ◌||◌, ◌∙◌, true, false, length, set, None, Some, sym, ap, subst, arith, nat_eq, is_some, slice_index_or}
 use Rattle.std.specs.Prelude.{nat_le}
 use Rattle.oc_shelf.proofs.ReadingLaws.FirstsLemmas.{any_true}
-use Rattle.oc_elf.specs.Groups.{member_count}
-use Rattle.oc_elf.specs.SectionRules.{is_bad_member}
+use Rattle.oc_elf.specs.{Groups.{member_count}, SectionRules.{is_bad_member}}
 use Rattle.oc_elf_judge.proofs.GroupLemmas.{IsTaking, refused_is, taking_more}
 use Rattle.oc_elf_judge.proofs.groups.take_members.Goals as goal
 

@@ -2,8 +2,7 @@
 use Rattle.std.proofs.Common.{◌∙◌, cond, length, None, sym, ap}
 use Rattle.std.proofs.lemmas.Bool.{lt-ltb}
 use Rattle.oc_shelf.proofs.ReadingLaws.SlotLemmas.{slot_anywhere}
-use Rattle.oc_elf.specs.declared.constants.TheConstants.{SHN_LORESERVE}
-use Rattle.oc_elf.specs.CarriedSections.{position_of}
+use Rattle.oc_elf.specs.{declared.constants.TheConstants.{SHN_LORESERVE}, CarriedSections.{position_of}}
 use Rattle.oc_elf_judge.proofs.PlaceLemmas.{position_past}
 use Rattle.oc_elf_judge.proofs.homes.home_of.Goals as goal
 

@@ -1,9 +1,7 @@
 -- The first section whose relocations have a fault stops the reading.
 use Rattle.std.proofs.Common.{◌≡◌, ℕ, ◌<◌, ◌∙◌, length, None, Option, sym, subst, arith}
-use Rattle.oc_base.specs.declared.fault.Fault.{Fault}
-use Rattle.oc_base.specs.Stops.{IsStop}
-use Rattle.oc_linking.specs.FirstFault.{stage_fault}
-use Rattle.oc_linking.specs.Numbers.{first_upto}
+use Rattle.oc_base.specs.{declared.fault.Fault.{Fault}, Stops.{IsStop}}
+use Rattle.oc_linking.specs.{FirstFault.{stage_fault}, Numbers.{first_upto}}
 use Rattle.oc_shelf.proofs.ReadingLaws.StageLemmas.{clean_more, first_fault-range, stops_at}
 use Rattle.oc_elf.specs.RelocRules.{reloc_stage}
 use Rattle.oc_elf_judge.proofs.judging.check_relocs.Goals as goal

@@ -1,7 +1,6 @@
 -- The relocations of the sections so far have no fault.
 use Rattle.std.proofs.Common.{◌≡◌, None}
-use Rattle.oc_linking.specs.FirstFault.{stage_fault}
-use Rattle.oc_linking.specs.Numbers.{first_upto}
+use Rattle.oc_linking.specs.{FirstFault.{stage_fault}, Numbers.{first_upto}}
 use Rattle.oc_elf.specs.RelocRules.{reloc_stage}
 use Rattle.oc_elf_judge.proofs.judging.check_relocs.Given as goal
 

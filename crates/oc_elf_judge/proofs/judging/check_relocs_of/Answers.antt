@@ -1,8 +1,7 @@
 -- The relocation table lies in the file.
 use Rattle.std.proofs.Common.{◌∙◌, sym, subst}
 use Rattle.oc_elf_judge.specs.Known.{IsTable}
-use Rattle.oc_elf_judge.proofs.JudgingLemmas.{kept_small}
-use Rattle.oc_elf_judge.proofs.TableLemmas.{table_is}
+use Rattle.oc_elf_judge.proofs.{JudgingLemmas.{kept_small}, TableLemmas.{table_is}}
 use Rattle.oc_elf_judge.proofs.judging.check_relocs_of.Goals as goal
 
 pub check_table-requires-clause-table : goal.check_table-requires-clause-table

@@ -1,8 +1,7 @@
 -- The symbol table lies in the file.
 use Rattle.std.proofs.Common.{sym, subst}
 use Rattle.oc_elf_judge.specs.Known.{IsSymtab}
-use Rattle.oc_elf_judge.proofs.SymbolLemmas.{locals_first}
-use Rattle.oc_elf_judge.proofs.TableLemmas.{are_signed, symtab_is}
+use Rattle.oc_elf_judge.proofs.{SymbolLemmas.{locals_first}, TableLemmas.{are_signed, symtab_is}}
 use Rattle.oc_elf_judge.proofs.judging.check_rest.Goals as goal
 
 pub weigh_symbols-requires : goal.weigh_symbols-requires

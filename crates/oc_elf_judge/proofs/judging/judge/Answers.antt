@@ -1,10 +1,8 @@
 -- The fault of a file is that of its header, or of the rest.
 use Rattle.std.proofs.Common.{Option, sym, ◌∙◌, ap, subst}
-use Rattle.oc_base.specs.declared.fault.Fault.{Fault}
-use Rattle.oc_base.specs.Stops.{IsStop}
+use Rattle.oc_base.specs.{declared.fault.Fault.{Fault}, Stops.{IsStop}}
 use Rattle.oc_linking.specs.FirstFault.{first_fault}
-use Rattle.oc_elf.specs.Elf.{rest_stages}
-use Rattle.oc_elf.specs.Frames.{FileFrame}
+use Rattle.oc_elf.specs.{Elf.{rest_stages}, Frames.{FileFrame}}
 use Rattle.oc_elf_judge.proofs.JudgingLemmas.{header_clean, header_stops}
 use Rattle.oc_elf_judge.proofs.judging.judge.Goals as goal
 

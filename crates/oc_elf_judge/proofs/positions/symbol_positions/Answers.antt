@@ -1,8 +1,7 @@
 -- There are no more positions than symbols.
 use Rattle.std.proofs.Common.{◌≤◌, arith}
 use Rattle.oc_shelf.proofs.ReadingLaws.CollectedLemmas.{length-collected}
-use Rattle.oc_elf.specs.CarriedSymbols.{symbol_of}
-use Rattle.oc_elf.specs.Tables.{symbol_count}
+use Rattle.oc_elf.specs.{CarriedSymbols.{symbol_of}, Tables.{symbol_count}}
 use Rattle.oc_elf.proofs.CountLemmas.{bit_small}
 use Rattle.oc_elf_judge.proofs.PositionLemmas.{few_symbols}
 use Rattle.oc_elf_judge.proofs.positions.symbol_positions.Goals as goal

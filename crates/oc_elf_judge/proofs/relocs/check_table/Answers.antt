@@ -1,8 +1,7 @@
 -- An entry with a fault stops the table.
 use Rattle.std.proofs.Common.{◌<◌, arith}
 use Rattle.oc_shelf.proofs.ReadingLaws.StageLemmas.{stops_at}
-use Rattle.oc_elf.specs.RelocRules.{entry_fault}
-use Rattle.oc_elf.specs.Tables.{reloc_count}
+use Rattle.oc_elf.specs.{RelocRules.{entry_fault}, Tables.{reloc_count}}
 use Rattle.oc_elf_judge.proofs.relocs.check_table.Goals as goal
 
 pub returns-in-Err-clause-stop : goal.returns-in-Err-clause-stop

@@ -3,14 +3,10 @@ use Rattle.std.proofs.Common.{◌≡◌, ℕ, ◌+◌, ◌<◌, ◌∙◌, Bool,
 use Rattle.std.specs.Option.{option_map_or}
 use Rattle.oc_base.specs.declared.code.Code.TheVariants.{Overlap}
 use Rattle.oc_linking.specs.FirstFault.{first_broken}
-use Rattle.oc_shelf.specs.Reading.Firsts.{any_upto}
-use Rattle.oc_shelf.specs.Reading.Spans.{meets}
+use Rattle.oc_shelf.specs.{Reading.Firsts.{any_upto}, Reading.Spans.{meets}}
 use Rattle.oc_shelf.proofs.ReadingLaws.BitmapLemmas.{met_in_upto}
-use Rattle.oc_elf.specs.declared.rel.Rel.{Rel}
-use Rattle.oc_elf.specs.Fields.{is_idle, width_of}
-use Rattle.oc_elf.specs.Frames.{FileFrame}
-use Rattle.oc_elf.specs.RelocRules.{bytes_for, meets_upto, own_conditions, reloc_fault, span_of}
-use Rattle.oc_elf.specs.Tables.{reloc_of, reloc_place}
+use Rattle.oc_elf.specs.{declared.rel.Rel.{Rel}, Fields.{is_idle, width_of}, Frames.{FileFrame}}
+use Rattle.oc_elf.specs.{RelocRules.{bytes_for, meets_upto, own_conditions, reloc_fault, span_of}, Tables.{reloc_of, reloc_place}}
 use Rattle.oc_elf_judge.proofs.RelocLemmas.{IsGood, field_in_room, field_inside, good_entry, idle_clean, met_fault, own_stops, taken_more, taken_same, wide_field}
 use Rattle.oc_elf_judge.proofs.relocs.judge_entry.Goals as goal
 

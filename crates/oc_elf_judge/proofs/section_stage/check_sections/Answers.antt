@@ -1,12 +1,8 @@
 -- A header that has no fault is taken up, and one that has one stops the stage.
 use Rattle.std.proofs.Common.{◌≡◌, ◌<◌, ◌∙◌, length, cond, Some, None, sym, ap, arith, slice_index_or}
-use Rattle.oc_linking.specs.FirstFault.{first_broken, fault_of}
+use Rattle.oc_linking.specs.{FirstFault.{first_broken, fault_of}, Numbers.{or_else}}
 use Rattle.oc_linking.proofs.Upto.{first_upto_stop}
-use Rattle.oc_linking.specs.Numbers.{or_else}
-use Rattle.oc_elf.specs.declared.constants.TheConstants.{SHT_SYMTAB}
-use Rattle.oc_elf.specs.declared.shdr.Shdr.{Shdr}
-use Rattle.oc_elf.specs.Sections.{is_type}
-use Rattle.oc_elf.specs.Frames.{header_at}
+use Rattle.oc_elf.specs.{declared.constants.TheConstants.{SHT_SYMTAB}, declared.shdr.Shdr.{Shdr}, Sections.{is_type}, Frames.{header_at}}
 use Rattle.oc_elf.specs.SectionRules.{section_conditions, section_stage}
 use Rattle.oc_elf_judge.proofs.SectionLemmas.{step_at, checking_more}
 use Rattle.oc_elf_judge.proofs.section_stage.check_sections.Goals as goal

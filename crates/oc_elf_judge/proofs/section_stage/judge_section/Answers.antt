@@ -2,14 +2,9 @@
 use Rattle.std.proofs.Common.{◌≡◌, ℕ, ◌∙◌, sym, ap}
 use Rattle.std.proofs.lemmas.Bool.{ne_eqb}
 use Rattle.oc_linking.specs.FirstFault.{first_broken}
-use Rattle.oc_elf.specs.declared.constants.TheConstants.{SHT_GROUP}
-use Rattle.oc_elf.specs.declared.shdr.Shdr.{Shdr}
-use Rattle.oc_elf.specs.Frames.{header_at, header_place}
-use Rattle.oc_elf.specs.Sections.{is_type}
-use Rattle.oc_elf.specs.SectionRules.{form_conditions, group_conditions}
-use Rattle.oc_elf.specs.Classes.{word_of}
-use Rattle.oc_elf_judge.proofs.GroupLemmas.{taking_passed}
-use Rattle.oc_elf_judge.proofs.SectionLemmas.{form_broken, group_broken, null_first, rest_broken, section_broken}
+use Rattle.oc_elf.specs.{declared.constants.TheConstants.{SHT_GROUP}, declared.shdr.Shdr.{Shdr}, Frames.{header_at, header_place}, Sections.{is_type}}
+use Rattle.oc_elf.specs.{SectionRules.{form_conditions, group_conditions}, Classes.{word_of}}
+use Rattle.oc_elf_judge.proofs.{GroupLemmas.{taking_passed}, SectionLemmas.{form_broken, group_broken, null_first, rest_broken, section_broken}}
 use Rattle.oc_elf_judge.proofs.section_stage.judge_section.Goals as goal
 
 pub returns-then-k-eq0-clause-taken : goal.returns-then-k-eq0-clause-taken

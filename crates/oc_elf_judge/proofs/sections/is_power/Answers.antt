@@ -1,7 +1,6 @@
 -- A number that is not it is passed.
 use Rattle.std.proofs.Common.{◌≡◌, ℕ, ◌+◌, ◌*◌, ◌%◌, ◌<◌, ◌∙◌, ◌^◌, nat_eq, sym, ap, arith}
-use Rattle.std.proofs.Math.Pow.{pow-lt}
-use Rattle.std.proofs.Math.Nat.{mod-eq_of_lt}
+use Rattle.std.proofs.{Math.Pow.{pow-lt}, Math.Nat.{mod-eq_of_lt}}
 use Rattle.std.proofs.lemmas.Bool.{ne_eqb}
 use Rattle.oc_linking.proofs.Upto.{first_from_step}
 use Rattle.oc_elf_judge.proofs.sections.is_power.Goals as goal

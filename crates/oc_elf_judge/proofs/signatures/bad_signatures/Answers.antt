@@ -1,7 +1,6 @@
 -- There is a key, or none, for each header.
 use Rattle.std.proofs.Common.{◌≡◌, ◌∙◌, length, ap, arith}
-use Rattle.std.proofs.lemmas.List.{length-map}
-use Rattle.std.proofs.lemmas.List.FromFn.{length-map-range_with_len}
+use Rattle.std.proofs.lemmas.{List.{length-map}, List.FromFn.{length-map-range_with_len}}
 use Rattle.std.specs.Option.{option_copied}
 use Rattle.oc_strings.specs.Repeats.{names_of}
 use Rattle.oc_elf.specs.Groups.{comdat_key}

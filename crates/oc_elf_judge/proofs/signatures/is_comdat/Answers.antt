@@ -1,11 +1,8 @@
 -- A group lies in the file.
 use Rattle.std.proofs.Common.{◌≡◌, ◌+◌, ◌≤◌, true, length, sym, ap, subst, ◌∙◌}
 use Rattle.std.proofs.lemmas.Bool.{eq-eqb}
-use Rattle.oc_elf.specs.declared.shdr.Shdr.{Shdr}
-use Rattle.oc_elf.specs.declared.constants.TheConstants.{SHT_GROUP}
-use Rattle.oc_elf.specs.Sections.{is_type}
-use Rattle.oc_elf_judge.proofs.SectionLemmas.{here}
-use Rattle.oc_elf_judge.proofs.TableLemmas.{group_at}
+use Rattle.oc_elf.specs.{declared.shdr.Shdr.{Shdr}, declared.constants.TheConstants.{SHT_GROUP}, Sections.{is_type}}
+use Rattle.oc_elf_judge.proofs.{SectionLemmas.{here}, TableLemmas.{group_at}}
 use Rattle.oc_elf_judge.proofs.signatures.is_comdat.Goals as goal
 
 pub group_word-requires-clause-lies : goal.group_word-requires-clause-lies

@@ -1,16 +1,11 @@
 -- One header more.
 use Rattle.std.proofs.Common.{◌≡◌, ℕ, ◌+◌, ◌<◌, ◌∙◌, ◌||◌, Bool, false, List, Option, Some, length, set, sym, ap, subst, arith, is_some, bytes_eq, []}
-use Rattle.std.proofs.lemmas.List.{length-map}
+use Rattle.std.proofs.lemmas.{List.{length-map}, List.FromFn.{length-map-range_with_len}}
 use Rattle.std.specs.Option.{option_copied, option_map_or}
-use Rattle.std.proofs.lemmas.List.FromFn.{length-map-range_with_len}
 use Rattle.oc_strings.specs.Repeats.{NameList, name_at, names_of, repeat_at}
-use Rattle.oc_elf.specs.declared.shdr.Shdr.{Shdr}
-use Rattle.oc_elf.specs.Frames.{FileFrame}
-use Rattle.oc_elf.specs.Groups.{comdat_key, comdat_keys}
+use Rattle.oc_elf.specs.{declared.shdr.Shdr.{Shdr}, Frames.{FileFrame}, Groups.{comdat_key, comdat_keys}, SymbolRules.{is_bad_key}}
 use Rattle.oc_elf_judge.specs.Marks.{AreMarks}
-use Rattle.oc_elf.specs.SymbolRules.{is_bad_key}
-use Rattle.oc_elf_judge.proofs.KeyedLemmas.{keyed_at}
-use Rattle.oc_elf_judge.proofs.MarkLemmas.{good_key, marks_kept, marks_more, other_group}
+use Rattle.oc_elf_judge.proofs.{KeyedLemmas.{keyed_at}, MarkLemmas.{good_key, marks_kept, marks_more, other_group}}
 use Rattle.oc_elf_judge.proofs.signatures.mark.Goals as goal
 
 pub is_bad_key-requires-clause-there : goal.is_bad_key-requires-clause-there

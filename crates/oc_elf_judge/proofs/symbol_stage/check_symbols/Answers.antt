@@ -1,12 +1,10 @@
 -- A symbol with a fault stops the stage.
 use Rattle.std.proofs.Common.{◌<◌, ◌∙◌, Option, sym, ap, arith}
 use Rattle.oc_base.specs.declared.fault.Fault.{Fault}
-use Rattle.oc_linking.specs.FirstFault.{fault_of}
-use Rattle.oc_linking.specs.Numbers.{or_else}
+use Rattle.oc_linking.specs.{FirstFault.{fault_of}, Numbers.{or_else}}
 use Rattle.oc_linking.proofs.Upto.{first_upto_stop}
 use Rattle.oc_shelf.proofs.ReadingLaws.StageLemmas.{clean_more}
-use Rattle.oc_elf.specs.SymbolRules.{symbol_stage}
-use Rattle.oc_elf.specs.Tables.{symbol_count}
+use Rattle.oc_elf.specs.{SymbolRules.{symbol_stage}, Tables.{symbol_count}}
 use Rattle.oc_elf_judge.proofs.SymbolLemmas.{other_fault, repeat_ends, symbol_broken}
 use Rattle.oc_elf_judge.proofs.symbol_stage.check_symbols.Goals as goal
 

@@ -2,8 +2,7 @@
 use Rattle.std.proofs.Common.{◌∙◌, cond, None, sym, ap}
 use Rattle.std.proofs.lemmas.Bool.{ne_eqb}
 use Rattle.oc_linking.specs.FirstFault.{first_broken}
-use Rattle.oc_elf.specs.Tables.{entry_of, symbol_place}
-use Rattle.oc_elf.specs.SymbolRules.{entry_conditions}
+use Rattle.oc_elf.specs.{Tables.{entry_of, symbol_place}, SymbolRules.{entry_conditions}}
 use Rattle.oc_elf_judge.proofs.SymbolLemmas.{entry_broken}
 use Rattle.oc_elf_judge.proofs.symbols.entry_fault.Goals as goal
 

@@ -2,21 +2,13 @@
 use Rattle.std.proofs.Common.{ℕ, ◌+◌, ◌<◌, ◌≤◌, ◌∙◌, List, length, take, IsOk, ◌^◌, arith, refl, sym, ap, subst}
 use Rattle.std.specs.Option.{IsSome}
 use Rattle.std.proofs.lemmas.Result.{on_ok_weaker}
-use Rattle.oc_neutral.specs.Building.{Draft}
+use Rattle.oc_neutral.specs.{Building.{Draft}, declared.elf.TheConstants.{SHT_NOBITS}}
 use Rattle.oc_shows.specs.Built.{HasAdded}
-use Rattle.oc_neutral.specs.declared.elf.TheConstants.{SHT_NOBITS}
 use Rattle.oc_shows.proofs.BuiltSteps.{added_is}
-use Rattle.oc_elf.specs.declared.rel.Rel.{Rel}
-use Rattle.oc_elf.specs.declared.shdr.Shdr.{Shdr}
-use Rattle.oc_elf_read.specs.Built.{symboled}
-use Rattle.oc_elf.specs.Fields.{width_of}
-use Rattle.oc_elf.specs.Frames.{header_at}
-use Rattle.oc_elf_read.specs.Given.{given_with, reloc_by}
-use Rattle.oc_elf.specs.Sections.{contents_of, is_type}
+use Rattle.oc_elf.specs.{declared.rel.Rel.{Rel}, declared.shdr.Shdr.{Shdr}, Fields.{width_of}, Frames.{header_at}, Sections.{contents_of, is_type}}
 use Rattle.oc_elf.specs.Tables.{symbol_count}
-use Rattle.oc_elf_read.proofs.AddedTables.{next_of, ready}
-use Rattle.oc_elf_read.proofs.FoundFields.{stages_clean}
-use Rattle.oc_elf_read.proofs.PlacedEntries.{placed_at}
+use Rattle.oc_elf_read.specs.{Built.{symboled}, Given.{given_with, reloc_by}}
+use Rattle.oc_elf_read.proofs.{AddedTables.{next_of, ready}, FoundFields.{stages_clean}, PlacedEntries.{placed_at}}
 use Rattle.oc_elf_read.proofs.added_relocs.add_entry.Goals as goal
 
 pub reloc_of-r-requires-clause-there : goal.reloc_of-r-requires-clause-there

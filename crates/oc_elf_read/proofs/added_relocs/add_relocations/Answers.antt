@@ -3,8 +3,7 @@ use Rattle.std.proofs.Common.{◌≡◌, ℕ, ◌∙◌, [], length, sym, ap, ar
 use Rattle.oc_neutral.specs.Building.{Draft}
 use Rattle.oc_shows.specs.Built.{HasAdded, given_by}
 use Rattle.oc_shows.proofs.BuiltSteps.{added_none, added_same}
-use Rattle.oc_elf_read.specs.Built.{symboled}
-use Rattle.oc_elf_read.specs.Given.{given_at, given_before}
+use Rattle.oc_elf_read.specs.{Built.{symboled}, Given.{given_at, given_before}}
 use Rattle.oc_elf.specs.Tables.{symbol_count}
 use Rattle.oc_elf_read.proofs.AddedTables.{given_all, given_none}
 use Rattle.oc_elf_read.proofs.added_relocs.add_relocations.Goals as goal

@@ -2,12 +2,10 @@
 use Rattle.std.proofs.Common.{◌+◌, ◌∙◌, sym, subst}
 use Rattle.std.specs.Option.{IsSome}
 use Rattle.oc_shows.proofs.BuiltSteps.{added_same}
-use Rattle.oc_elf_read.specs.Built.{symboled}
-use Rattle.oc_elf_read.specs.Given.{given_before}
+use Rattle.oc_elf_read.specs.{Built.{symboled}, Given.{given_before}}
 use Rattle.oc_elf_judge.specs.Known.{IsTable}
 use Rattle.oc_elf.specs.Tables.{symbol_count}
-use Rattle.oc_elf_read.proofs.AddedTables.{given_left, kept_position}
-use Rattle.oc_elf_read.proofs.FoundFields.{stages_clean}
+use Rattle.oc_elf_read.proofs.{AddedTables.{given_left, kept_position}, FoundFields.{stages_clean}}
 use Rattle.oc_elf_judge.proofs.TableLemmas.{table_is}
 use Rattle.oc_elf_read.proofs.added_relocs.add_relocs_of.Goals as goal
 

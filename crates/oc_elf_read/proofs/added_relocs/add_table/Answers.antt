@@ -1,11 +1,9 @@
 -- With its last entry a section is done.
 use Rattle.std.proofs.Common.{◌≡◌, ℕ, ◌+◌, ◌∙◌, length, take, ap, arith}
 use Rattle.oc_shows.proofs.BuiltSteps.{added_same}
-use Rattle.oc_elf_read.specs.Built.{symboled}
-use Rattle.oc_elf_read.specs.Given.{given_before, given_with}
+use Rattle.oc_elf_read.specs.{Built.{symboled}, Given.{given_before, given_with}}
 use Rattle.oc_elf.specs.Tables.{symbol_count}
-use Rattle.oc_elf_read.proofs.AddedTables.{table_done}
-use Rattle.oc_elf_read.proofs.FoundFields.{stages_clean}
+use Rattle.oc_elf_read.proofs.{AddedTables.{table_done}, FoundFields.{stages_clean}}
 use Rattle.oc_elf_read.proofs.added_relocs.add_table.Goals as goal
 
 pub returns : goal.returns

@@ -1,8 +1,7 @@
 -- The relocations of the entries so far are added.
 use Rattle.std.proofs.Common.{take}
 use Rattle.oc_shows.specs.Built.{HasAdded}
-use Rattle.oc_elf_read.specs.Built.{symboled}
-use Rattle.oc_elf_read.specs.Given.{given_with}
+use Rattle.oc_elf_read.specs.{Built.{symboled}, Given.{given_with}}
 use Rattle.oc_elf.specs.Tables.{symbol_count}
 use Rattle.oc_elf_read.proofs.added_relocs.add_table.Given as goal
 

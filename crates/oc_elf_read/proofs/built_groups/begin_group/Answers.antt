@@ -1,8 +1,7 @@
 -- There are few groups, and the one that begins has the next position.
 use Rattle.std.proofs.Common.{ℕ, ◌+◌, ◌∙◌, List, length, set, Some, sym, ap, subst, arith}
 use Rattle.std.proofs.lemmas.List.{length-map}
-use Rattle.oc_neutral.specs.declared.group.Group.{Group}
-use Rattle.oc_neutral.specs.Building.{Draft}
+use Rattle.oc_neutral.specs.{declared.group.Group.{Group}, Building.{Draft}}
 use Rattle.oc_elf_read.specs.Built.{AreBegunGroups, keys_upto}
 use Rattle.oc_elf_read.proofs.BegunLemmas.{begun_more, keys_few}
 use Rattle.oc_elf_read.proofs.built_groups.begin_group.Goals as goal

@@ -3,8 +3,7 @@ use Rattle.std.proofs.Common.{◌≡◌, ◌∙◌, ℕ, ℤ, Some, ap, of_z, ru
 use Rattle.oc_base.specs.declared.format.Word.{Word}
 use Rattle.oc_neutral.specs.declared.reloc.Reloc.{Reloc}
 use Rattle.oc_neutral.specs.declared.reloc.Target.TheVariants as target
-use Rattle.oc_elf.specs.declared.meaning.Meaning.{Meaning}
-use Rattle.oc_elf.specs.CarriedSymbols.{symbol_position}
+use Rattle.oc_elf.specs.{declared.meaning.Meaning.{Meaning}, CarriedSymbols.{symbol_position}}
 use Rattle.oc_elf_read.specs.Given.{addend_by}
 use Rattle.oc_elf_read.proofs.CarriedLemmas.{placed_other}
 use Rattle.oc_elf_read.proofs.built_relocs.reloc_with.Goals as goal

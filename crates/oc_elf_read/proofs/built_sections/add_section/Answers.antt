@@ -1,18 +1,13 @@
 -- A carried section without a fault passes no limit, so it is added; any other is left out.
 use Rattle.std.proofs.Common.{ℕ, ◌+◌, ◌∙◌, List, length, sym, ap, subst, arith, IsOk, refl}
-use Rattle.oc_neutral.specs.Building.{Draft, section_added}
-use Rattle.std.proofs.lemmas.List.{length-map}
-use Rattle.oc_neutral.specs.declared.group.Group.{Group}
-use Rattle.oc_neutral.specs.declared.section.Section.{Section}
+use Rattle.oc_neutral.specs.{Building.{Draft, section_added}, declared.group.Group.{Group}, declared.section.Section.{Section}}
 use Rattle.oc_neutral.specs.Invariants.{HasItsBytes, IsMember}
-use Rattle.oc_elf_read.proofs.StoredLemmas.{member_stored}
+use Rattle.std.proofs.lemmas.List.{length-map}
+use Rattle.oc_elf_read.proofs.{StoredLemmas.{member_stored}, BuildLemmas.{bytes_long, carried_added, passed_over, placed_at, room}}
 use Rattle.oc_shows.specs.Started.{stored_section}
 use Rattle.oc_shows.proofs.BuiltSteps.{added_is}
-use Rattle.oc_elf.specs.declared.shdr.Shdr.{Shdr}
+use Rattle.oc_elf.specs.{declared.shdr.Shdr.{Shdr}, CarriedSections.{section_with}, Sections.{is_carried}}
 use Rattle.oc_elf_read.specs.Built.{IsPlaced, keys_of, sectioned}
-use Rattle.oc_elf.specs.CarriedSections.{section_with}
-use Rattle.oc_elf.specs.Sections.{is_carried}
-use Rattle.oc_elf_read.proofs.BuildLemmas.{bytes_long, carried_added, passed_over, placed_at, room}
 use Rattle.oc_elf_judge.proofs.SectionLemmas.{here}
 use Rattle.oc_elf_read.proofs.built_sections.add_section.Goals as goal
 

@@ -1,7 +1,6 @@
 -- A symbol without a fault has small numbers and a name of its own, so it is added.
 use Rattle.std.proofs.Common.{◌+◌, ◌∙◌, IsOk, length, refl, sym, ap, subst, arith}
-use Rattle.std.proofs.lemmas.Bool.{ne_eqb}
-use Rattle.std.proofs.lemmas.List.{length-map}
+use Rattle.std.proofs.lemmas.{Bool.{ne_eqb}, List.{length-map}}
 use Rattle.oc_neutral.specs.Building.{Draft}
 use Rattle.oc_shows.specs.Computed.{computed_symbol}
 use Rattle.oc_shows.proofs.BuiltSteps.{added_is}
@@ -10,9 +9,8 @@ use Rattle.oc_shelf.proofs.ReadingLaws.CollectedLemmas.{length-collected}
 use Rattle.oc_elf_read.specs.Built.{symboled}
 use Rattle.oc_elf.specs.CarriedSymbols.{symbol_of, symbols_of}
 use Rattle.oc_elf_judge.specs.Known.{IsValued}
-use Rattle.oc_elf_read.proofs.AddedSymbols.{can_symbol}
+use Rattle.oc_elf_read.proofs.{AddedSymbols.{can_symbol}, ValuedLemmas.{is_valued}}
 use Rattle.oc_elf_judge.proofs.PositionLemmas.{few_symbols}
-use Rattle.oc_elf_read.proofs.ValuedLemmas.{is_valued}
 use Rattle.oc_elf_read.proofs.built_symbols.add_symbol.Goals as goal
 
 pub carried_binding-requires-clause-valued : goal.carried_binding-requires-clause-valued

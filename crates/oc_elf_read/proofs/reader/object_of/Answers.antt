@@ -1,16 +1,11 @@
 -- What is built can be finished, and what is read shows the file.
 use Rattle.std.proofs.Common.{sym, subst}
 use Rattle.oc_neutral.specs.Invariants.{AreBytes, IsDraft}
-use Rattle.oc_shows.specs.Readable.{IsReadable}
-use Rattle.oc_shows.specs.Shows.{Shows}
+use Rattle.oc_shows.specs.{Readable.{IsReadable}, Shows.{Shows}}
 use Rattle.oc_elf.specs.Elf.{elf_dialect}
 use Rattle.oc_elf_judge.specs.Known.{IsSymtab}
-use Rattle.oc_elf_read.proofs.FoundFields.{stages_clean}
-use Rattle.oc_elf_judge.proofs.PositionLemmas.{few_symbols}
-use Rattle.oc_elf_read.proofs.ReaderLemmas.{read_complete, read_readable, read_shows, symtab_found}
-use Rattle.oc_elf_read.proofs.ShowableLemmas.{is_started}
-use Rattle.oc_elf_judge.proofs.SymbolLemmas.{locals_first}
-use Rattle.oc_elf_judge.proofs.TableLemmas.{are_signed}
+use Rattle.oc_elf_read.proofs.{FoundFields.{stages_clean}, ReaderLemmas.{read_complete, read_readable, read_shows, symtab_found}, ShowableLemmas.{is_started}}
+use Rattle.oc_elf_judge.proofs.{PositionLemmas.{few_symbols}, SymbolLemmas.{locals_first}, TableLemmas.{are_signed}}
 use Rattle.oc_elf_read.proofs.reader.object_of.Goals as goal
 
 pub start-requires-clause-table : goal.start-requires-clause-table

@@ -1,10 +1,7 @@
 -- Header 0 has the number of headers, and the last one where the file header has no room.
 use Rattle.std.proofs.Common.{◌≡◌, ℕ, ◌-◌, true, cond, length, sym, ◌∙◌, ap, arith}
-use Rattle.oc_elf.specs.declared.shdr.Shdr.{Shdr}
-use Rattle.oc_elf.specs.Classes.{is_big}
-use Rattle.oc_elf.specs.Shdr.{null_shdr}
-use Rattle.oc_elf_file.specs.Headers.{extended_names}
-use Rattle.oc_elf_file.specs.Heads.{heads_of, head_where, is_shstrtab_head}
+use Rattle.oc_elf.specs.{declared.shdr.Shdr.{Shdr}, Classes.{is_big}, Shdr.{null_shdr}}
+use Rattle.oc_elf_file.specs.{Headers.{extended_names}, Heads.{heads_of, head_where, is_shstrtab_head}}
 use Rattle.oc_elf_write.proofs.HeaderLemmas.{shstrtab_number}
 use Rattle.oc_elf_write.proofs.headers.zero_header.Goals as goal
 

@@ -1,7 +1,6 @@
 -- A name that is not empty is given.
 use Rattle.std.proofs.Common.{◌≡◌, false, [], sym, ◌∙◌, ap, subst}
-use Rattle.std.specs.Prelude.{not, is_some}
-use Rattle.std.specs.Option.{unwrap_or}
+use Rattle.std.specs.{Prelude.{not, is_some}, Option.{unwrap_or}}
 use Rattle.oc_base.specs.Strings.{is_given, table_place}
 use Rattle.oc_strings.specs.Tables.{StringTable}
 use Rattle.oc_elf_write.proofs.StringLemmas.{empty_name, some_place}

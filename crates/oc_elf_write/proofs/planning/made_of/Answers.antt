@@ -1,23 +1,14 @@
 -- What is made is that of the object.
 use Rattle.std.proofs.Common.{◌≡◌, ℕ, ◌+◌, ◌-◌, ◌^◌, ◌<◌, cond, List, length, get_or, refl, rules, sym, ◌∙◌, ap, subst, arith}
 use Rattle.oc_target.specs.Fitted.{IsFitted}
-use Rattle.oc_neutral.specs.Objects.{Object}
+use Rattle.oc_neutral.specs.{Objects.{Object}, Families.{is_many}}
 use Rattle.oc_elf.specs.Classes.{format_of, is_big, word_of}
 use Rattle.oc_shelf.specs.Writing.Parts.{place_where}
-use Rattle.oc_elf_file.specs.Heads.{heads_of, head_where, is_shstrtab_head}
-use Rattle.oc_neutral.specs.Families.{is_many}
-use Rattle.oc_elf_file.specs.Canonical.{shown_count, shown_names}
+use Rattle.oc_elf_file.specs.{Heads.{heads_of, head_where, is_shstrtab_head}, Canonical.{shown_count, shown_names}}
 use Rattle.oc_elf_file.specs.Layout.{is_head_table, laid_parts, parts_of}
-use Rattle.oc_elf_file.proofs.CodedLaws.{many_is}
-use Rattle.oc_elf_file.proofs.HeaderFits.{count_low, names_low}
-use Rattle.oc_elf_write.specs.declared.heads.Head.{Head}
-use Rattle.oc_elf_write.specs.declared.lines.Line.{Line}
-use Rattle.oc_elf_write.specs.Keys.{AreKeys}
-use Rattle.oc_elf_write.specs.LaidParts.{AreLaid}
-use Rattle.oc_elf_write.specs.Raws.{all_raws}
-use Rattle.oc_elf_write.proofs.HeadLemmas.{as_many_heads, ready_for}
-use Rattle.oc_elf_write.proofs.HeaderLemmas.{symtab_number, shstrtab_number}
-use Rattle.oc_elf_write.proofs.LaidLemmas.{places_many, table_place}
+use Rattle.oc_elf_file.proofs.{CodedLaws.{many_is}, HeaderFits.{count_low, names_low}}
+use Rattle.oc_elf_write.specs.{declared.heads.Head.{Head}, declared.lines.Line.{Line}, Keys.{AreKeys}, LaidParts.{AreLaid}, Raws.{all_raws}}
+use Rattle.oc_elf_write.proofs.{HeadLemmas.{as_many_heads, ready_for}, HeaderLemmas.{symtab_number, shstrtab_number}, LaidLemmas.{places_many, table_place}}
 use Rattle.oc_elf_write.proofs.planning.made_of.Goals as goal
 
 pub of-requires-clause-few : goal.of-requires-clause-few

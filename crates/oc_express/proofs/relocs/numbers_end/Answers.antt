@@ -1,10 +1,7 @@
 use Rattle.std.proofs.Common.{◌≡◌, ◌∙◌, ℕ, ◌+◌, ◌<◌, Bool, true, false, List, Some, ap, arith, if◌then◌else◌, length, slice_get, sym, take}
-use Rattle.std.proofs.lemmas.Option.{slice_get_within}
-use Rattle.std.proofs.lemmas.List.{length-take-le}
-use Rattle.oc_neutral.specs.declared.symbol.Symbol.{Symbol}
-use Rattle.oc_neutral.specs.Keeping.{IsEndOf}
-use Rattle.oc_neutral.proofs.FieldLists.{take_here}
-use Rattle.oc_neutral.proofs.PlacedSymbols.{end_grown}
+use Rattle.std.proofs.lemmas.{Option.{slice_get_within}, List.{length-take-le}}
+use Rattle.oc_neutral.specs.{declared.symbol.Symbol.{Symbol}, Keeping.{IsEndOf}}
+use Rattle.oc_neutral.proofs.{FieldLists.{take_here}, PlacedSymbols.{end_grown}}
 use Rattle.oc_express.specs.Firsts.{is_numbered}
 use Rattle.oc_express.proofs.relocs.numbers_end.Goals as goal
 use Rattle.oc_express.proofs.relocs.numbers_end.Goals.{then-is_local_number, else-is_local_number}

@@ -1,8 +1,6 @@
 use Rattle.std.proofs.Common.{ℕ, ◌≤◌, ◌∙◌, ◌++◌, ap, arith, get_or, length, string_bytes, sym, take}
 use Rattle.std.specs.List.{enumerate_from, flat_map}
-use Rattle.std.proofs.lemmas.List.{append_assoc, take_all}
-use Rattle.std.proofs.lemmas.List.FromFn.{length-enumerate_from}
-use Rattle.std.proofs.lemmas.Option.{slice_get-get_or}
+use Rattle.std.proofs.lemmas.{List.{append_assoc, take_all}, List.FromFn.{length-enumerate_from}, Option.{slice_get-get_or}}
 use Rattle.oc_link.specs.Texts.{byte_text}
 use Rattle.oc_link.proofs.TextLemmas.{byte_more}
 use Rattle.oc_link.proofs.bytes.put_bytes.Goals as goal

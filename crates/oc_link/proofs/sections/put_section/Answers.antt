@@ -1,8 +1,7 @@
 use Rattle.std.proofs.Common.{◌∙◌, ◌++◌, ap, string_bytes, sym}
 use Rattle.std.proofs.lemmas.List.{append_assoc}
 use Rattle.oc_base.specs.Formats.{word_for}
-use Rattle.oc_link.specs.Texts.{head_text}
-use Rattle.oc_link.specs.Pieces.{image_text_of}
+use Rattle.oc_link.specs.{Texts.{head_text}, Pieces.{image_text_of}}
 use Rattle.oc_link.proofs.TextLemmas.{whole_is}
 use Rattle.oc_link.proofs.sections.put_section.Goals as goal
 

@@ -1,14 +1,11 @@
 use Rattle.std.proofs.Common.{◌≤◌, ◌∙◌, ◌++◌, ap, arith, length, string_bytes, sym, take}
 use Rattle.std.specs.List.{enumerate_from, flat_map}
-use Rattle.std.proofs.lemmas.List.{append_assoc, length-map, take_all}
-use Rattle.std.proofs.lemmas.List.FromFn.{length-enumerate_from}
+use Rattle.std.proofs.lemmas.{List.{append_assoc, length-map, take_all}, List.FromFn.{length-enumerate_from}}
 use Rattle.oc_base.specs.Formats.{word_for}
 use Rattle.oc_neutral.specs.Faces.{shown_section, shown_sections, frame_of}
 use Rattle.oc_neutral.proofs.Positions.{there_at}
 use Rattle.oc_dump.proofs.LineLemmas.{flat_map-next}
-use Rattle.oc_link.specs.Texts.{section_text}
-use Rattle.oc_link.specs.Pieces.{frames, images, section_text_of}
-use Rattle.oc_link.specs.Values.{laid}
+use Rattle.oc_link.specs.{Texts.{section_text}, Pieces.{frames, images, section_text_of}, Values.{laid}}
 use Rattle.oc_link.proofs.TextLemmas.{listed_at, section_at}
 use Rattle.oc_link.proofs.sections.put_sections.Goals as goal
 

@@ -1,9 +1,7 @@
 use Rattle.std.proofs.Common.{◌≡◌, ◌++◌, string_bytes, take}
 use Rattle.std.specs.List.{enumerate_from, flat_map}
 use Rattle.oc_base.specs.Formats.{word_for}
-use Rattle.oc_link.specs.Texts.{section_text}
-use Rattle.oc_link.specs.Pieces.{frames, images}
-use Rattle.oc_link.specs.Values.{laid}
+use Rattle.oc_link.specs.{Texts.{section_text}, Pieces.{frames, images}, Values.{laid}}
 use Rattle.oc_link.proofs.sections.put_sections.Given as goal
 
 -- the sections so far

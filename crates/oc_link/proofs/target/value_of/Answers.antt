@@ -1,6 +1,5 @@
 use Rattle.std.proofs.Common.{◌≡◌, subst, sym}
-use Rattle.oc_neutral.specs.Invariants.{IsThere, NamesOriginal}
-use Rattle.oc_neutral.specs.Worth.{target_worth}
+use Rattle.oc_neutral.specs.{Invariants.{IsThere, NamesOriginal}, Worth.{target_worth}}
 use Rattle.oc_link.specs.Values.{as_valued, laid, valued}
 use Rattle.oc_link.proofs.ValueLemmas.{target_is}
 use Rattle.oc_link.proofs.target.value_of.Goals as goal

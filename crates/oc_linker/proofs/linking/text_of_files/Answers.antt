@@ -1,7 +1,6 @@
 -- What holds of the object and of the placement holds of the files.
 use Rattle.std.proofs.Common.{◌≡◌, ◌∙◌, List, ℕ, subst}
-use Rattle.oc_linker.specs.Causes.{ExplainsText, outcome_with}
-use Rattle.oc_linker.specs.Outcomes.{LinkText}
+use Rattle.oc_linker.specs.{Causes.{ExplainsText, outcome_with}, Outcomes.{LinkText}}
 use Rattle.oc_linker.proofs.LinkLemmas.{outcome_of_files, text_explained}
 use Rattle.oc_linker.proofs.linking.text_of_files.Goals as goal
 

@@ -1,7 +1,5 @@
 use Rattle.std.proofs.Common.{◌≡◌, None, sym, subst, arith}
-use Rattle.oc_linking.specs.Numbers.{first_upto}
-use Rattle.oc_linking.specs.Images.{byte_by}
-use Rattle.oc_linking.specs.Plain.{patches_at}
+use Rattle.oc_linking.specs.{Numbers.{first_upto}, Images.{byte_by}, Plain.{patches_at}}
 use Rattle.oc_linking.proofs.Upto.{first_upto_stop}
 use Rattle.oc_linking.proofs.plain.byte_at.Goals as goal
 

@@ -1,6 +1,5 @@
 use Rattle.std.proofs.Common.{◌≡◌, None}
-use Rattle.oc_linking.specs.Plain.{patches_at}
-use Rattle.oc_linking.specs.Images.{byte_upto}
+use Rattle.oc_linking.specs.{Plain.{patches_at}, Images.{byte_upto}}
 use Rattle.oc_linking.proofs.plain.byte_at.Given as goal
 
 -- no nearer field stores the byte

@@ -1,6 +1,5 @@
 use Rattle.std.proofs.Common.{◌≡◌, false, sym, ◌∙◌}
-use Rattle.oc_linking.specs.Images.{passes_at, overflows}
-use Rattle.oc_linking.specs.Plain.{patches_at}
+use Rattle.oc_linking.specs.{Images.{passes_at, overflows}, Plain.{patches_at}}
 use Rattle.oc_linking.proofs.Upto.{first_from_step}
 use Rattle.oc_linking.proofs.plain.first_offset.Goals as goal
 

@@ -1,7 +1,5 @@
 use Rattle.std.proofs.Common.{◌≡◌, ◌-◌}
-use Rattle.oc_linking.specs.Plain.{patches_at}
-use Rattle.oc_linking.specs.Numbers.{first_from}
-use Rattle.oc_linking.specs.Images.{passes_at, overflows, first_at}
+use Rattle.oc_linking.specs.{Plain.{patches_at}, Numbers.{first_from}, Images.{passes_at, overflows, first_at}}
 use Rattle.oc_linking.proofs.plain.first_offset.Given as goal
 
 -- the offsets that are left have the answer

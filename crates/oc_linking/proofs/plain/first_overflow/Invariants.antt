@@ -1,6 +1,5 @@
 use Rattle.std.proofs.Common.{◌≡◌, drop, map}
-use Rattle.oc_linking.specs.Plain.{patches_at}
-use Rattle.oc_linking.specs.Images.{first_field, overflows}
+use Rattle.oc_linking.specs.{Plain.{patches_at}, Images.{first_field, overflows}}
 use Rattle.oc_linking.proofs.plain.first_overflow.Given as goal
 
 -- the sections that are left have the answer

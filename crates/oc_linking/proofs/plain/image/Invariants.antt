@@ -1,6 +1,5 @@
 use Rattle.std.proofs.Common.{◌≡◌, ◌++◌, drop}
-use Rattle.oc_linking.specs.Plain.{patches_at}
-use Rattle.oc_linking.specs.Images.{overlay}
+use Rattle.oc_linking.specs.{Plain.{patches_at}, Images.{overlay}}
 use Rattle.oc_linking.proofs.plain.image.Given as goal
 
 -- what is written and what is left are the image

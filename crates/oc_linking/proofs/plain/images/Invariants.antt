@@ -1,6 +1,5 @@
 use Rattle.std.proofs.Common.{◌≡◌, ◌++◌, drop, map}
-use Rattle.oc_linking.specs.Plain.{patches_at}
-use Rattle.oc_linking.specs.Images.{overlays}
+use Rattle.oc_linking.specs.{Plain.{patches_at}, Images.{overlays}}
 use Rattle.oc_linking.proofs.plain.images.Given as goal
 
 -- the images that are made and those that are left are all

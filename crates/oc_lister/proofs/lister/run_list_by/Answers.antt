@@ -2,8 +2,7 @@
 use Rattle.std.proofs.Common.{◌≡◌, ℕ, List, Option, Some, None, rules, refl, sym, subst}
 use Rattle.oc_runs.specs.States.{State, state_of}
 use Rattle.oc_listings.specs.declared.listing.Listing.{Listing}
-use Rattle.oc_lister.specs.Runs.{DoesAsked}
-use Rattle.oc_lister.specs.Words.{asked_by}
+use Rattle.oc_lister.specs.{Runs.{DoesAsked}, Words.{asked_by}}
 use Rattle.oc_lister.proofs.lister.run_list_by.Goals as goal
 
 pub returns-in-Some : goal.returns-in-Some

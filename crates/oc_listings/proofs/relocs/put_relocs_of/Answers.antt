@@ -1,10 +1,8 @@
 -- What the relocations of a section name is there.
 use Rattle.std.proofs.Common.{◌≡◌, rules, subst}
 use Rattle.std.specs.List.{AllByRecursion}
-use Rattle.oc_chains.specs.declared.field.Field.{Field}
-use Rattle.oc_chains.specs.Lists.{list_of}
-use Rattle.oc_neutral.specs.declared.reloc.Reloc.{Reloc}
-use Rattle.oc_neutral.specs.Invariants.{IsHeld, IsThere}
+use Rattle.oc_chains.specs.{declared.field.Field.{Field}, Lists.{list_of}}
+use Rattle.oc_neutral.specs.{declared.reloc.Reloc.{Reloc}, Invariants.{IsHeld, IsThere}}
 use Rattle.oc_neutral.proofs.Positions.{each_weaker, there_at}
 use Rattle.oc_listings.proofs.relocs.put_relocs_of.Goals as goal
 

@@ -1,10 +1,8 @@
 -- The lines so far and those that are left stand after the text.
 use Rattle.std.proofs.Common.{◌≡◌, ◌++◌, string_bytes}
 use Rattle.std.specs.List.{AllByRecursion, flat_map}
-use Rattle.oc_chains.specs.Lists.{list_of}
-use Rattle.oc_chains.specs.declared.field.Field.{Field}
-use Rattle.oc_neutral.specs.declared.reloc.Reloc.{Reloc}
-use Rattle.oc_neutral.specs.Invariants.{IsThere}
+use Rattle.oc_chains.specs.{Lists.{list_of}, declared.field.Field.{Field}}
+use Rattle.oc_neutral.specs.{declared.reloc.Reloc.{Reloc}, Invariants.{IsThere}}
 use Rattle.oc_listings.specs.ObjectListings.{reloc_line}
 use Rattle.oc_listings.proofs.relocs.put_relocs_of.Given as goal
 

@@ -1,9 +1,7 @@
 -- The size of a segment is small.
 use Rattle.std.proofs.Common.{◌≡◌, ℕ, ◌*◌, ◌≤◌, arith}
-use Rattle.oc_base.specs.declared.format.Word.{Word}
-use Rattle.oc_base.specs.declared.format.Word.TheVariants.{W32, W64}
-use Rattle.oc_macho.specs.SectionHeader.{section_header_size}
-use Rattle.oc_macho.specs.SegmentCommand.{segment_command_size}
+use Rattle.oc_base.specs.{declared.format.Word.{Word}, declared.format.Word.TheVariants.{W32, W64}}
+use Rattle.oc_macho.specs.{SectionHeader.{section_header_size}, SegmentCommand.{segment_command_size}}
 use Rattle.oc_macho.proofs.commands.is_short_segment.Goals as goal
 
 few : (w : Word) (a n : ℕ) → a ≡ section_header_size w → a * n ≤ 80 * n

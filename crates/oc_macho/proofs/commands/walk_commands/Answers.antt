@@ -1,11 +1,7 @@
 -- One command more.
 use Rattle.std.proofs.Common.{◌≡◌, ℕ, ◌+◌, ◌≤◌, sym, ◌∙◌, ap, subst, arith}
-use Rattle.oc_macho.specs.declared.commands.Commands.{Commands}
-use Rattle.oc_macho.specs.declared.load_command.LoadCommand.{LoadCommand}
-use Rattle.oc_macho.specs.declared.mach_header.MachHeader.{MachHeader}
-use Rattle.oc_macho.specs.HeaderFaults.{commands_end}
-use Rattle.oc_macho.specs.MachHeader.{mach_header_size}
-use Rattle.oc_macho.specs.Walked.{AreCommands, IsWalking, no_commands}
+use Rattle.oc_macho.specs.{declared.commands.Commands.{Commands}, declared.load_command.LoadCommand.{LoadCommand}, declared.mach_header.MachHeader.{MachHeader}}
+use Rattle.oc_macho.specs.{HeaderFaults.{commands_end}, MachHeader.{mach_header_size}, Walked.{AreCommands, IsWalking, no_commands}}
 use Rattle.oc_macho.proofs.CommandLemmas.{any_worse, walking_more, walking_none}
 use Rattle.oc_macho.proofs.commands.walk_commands.Goals as goal
 

@@ -1,8 +1,7 @@
 -- What is held of the file is the file's.
 use Rattle.std.proofs.Common.{ℕ, Option, sym, ◌∙◌, ap, arith}
 use Rattle.std.specs.Option.{option_map_or}
-use Rattle.oc_macho.specs.SegmentCommand.{segment_command_at}
-use Rattle.oc_macho.specs.Tables.{headers_place}
+use Rattle.oc_macho.specs.{SegmentCommand.{segment_command_at}, Tables.{headers_place}}
 use Rattle.oc_macho.proofs.HeaderLemmas.{framed, segment_lies, strings_lie}
 use Rattle.oc_macho.proofs.headers.placed.Goals as goal
 

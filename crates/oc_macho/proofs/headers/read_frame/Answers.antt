@@ -2,11 +2,8 @@
 use Rattle.std.proofs.Common.{[], Option, length, sym, ◌∙◌, ap}
 use Rattle.std.specs.Option.{option_map, option_map_or}
 use Rattle.oc_base.specs.declared.fault.Fault.{Fault}
-use Rattle.oc_linking.specs.FirstFault.{first_broken}
-use Rattle.oc_linking.specs.Numbers.{or_else}
-use Rattle.oc_macho.specs.declared.symtab_command.SymtabCommand.{SymtabCommand}
-use Rattle.oc_macho.specs.SymtabCommand.{symtab_command_at}
-use Rattle.oc_macho.specs.Tables.{symtab_of}
+use Rattle.oc_linking.specs.{FirstFault.{first_broken}, Numbers.{or_else}}
+use Rattle.oc_macho.specs.{declared.symtab_command.SymtabCommand.{SymtabCommand}, SymtabCommand.{symtab_command_at}, Tables.{symtab_of}}
 use Rattle.oc_macho.specs.HeaderFaults.{symtab_conditions}
 use Rattle.oc_macho.proofs.HeaderLemmas.{header_broken, symtab_lies, symtab_there}
 use Rattle.oc_macho.proofs.headers.read_frame.Goals as goal

@@ -3,8 +3,7 @@ use Rattle.std.proofs.Common.{◌≡◌, None, Some, sym, ◌∙◌, ap, to_z, o
 use Rattle.std.specs.Prelude.{ℤ}
 use Rattle.oc_base.specs.declared.format.Word.{Word}
 use Rattle.oc_macho_judge.specs.Anchors.{anchor_in, is_narrow, is_wide}
-use Rattle.oc_macho.specs.Entries.{row_for, target_entry}
-use Rattle.oc_macho.specs.Framed.{table_at}
+use Rattle.oc_macho.specs.{Entries.{row_for, target_entry}, Framed.{table_at}}
 use Rattle.oc_macho_judge.proofs.WideLemmas.{narrow_is, not_narrow, wide_is}
 use Rattle.oc_macho_judge.proofs.differences.is_too_wide.Goals as goal
 

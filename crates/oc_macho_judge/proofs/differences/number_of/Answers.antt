@@ -4,9 +4,7 @@ use Rattle.std.specs.Prelude.{◌||◌, replicate}
 use Rattle.oc_base.specs.Numbers.{number_at}
 use Rattle.oc_linking.specs.declared.terms.Width.TheVariants.{Four}
 use Rattle.oc_algebra.specs.Fields.{extended}
-use Rattle.oc_macho.specs.Framed.{table_at}
-use Rattle.oc_macho.specs.Sections.{contents_of, is_zerofill}
-use Rattle.oc_macho.specs.Tables.{SectionTable}
+use Rattle.oc_macho.specs.{Framed.{table_at}, Sections.{contents_of, is_zerofill}, Tables.{SectionTable}}
 use Rattle.oc_macho_judge.proofs.differences.number_of.Goals as goal
 use Rattle.oc_neutral.proofs.Adding.{or_left}
 

@@ -1,8 +1,7 @@
 -- The point parts the edges up to an address from those above it.
 use Rattle.std.proofs.Common.{◌≡◌, ℕ, ◌≤◌, length, nat_le, rules, sym, ◌∙◌, ap, subst, arith}
 use Rattle.std.specs.List.Sorted.{IsNonDecreasingBy}
-use Rattle.std.proofs.lemmas.List.{length-map}
-use Rattle.std.proofs.lemmas.List.Sorted.{IsPartitionPoint-from_clause, IsPartitionedBy-leb}
+use Rattle.std.proofs.lemmas.{List.{length-map}, List.Sorted.{IsPartitionPoint-from_clause, IsPartitionedBy-leb}}
 use Rattle.oc_macho_judge.specs.declared.holders.Edge.{Edge}
 use Rattle.oc_macho_judge.proofs.HolderLemmas.{last_before, none_before, places_in_order, point_of_edges}
 use Rattle.oc_macho_judge.proofs.holders.last_upto.Goals as goal

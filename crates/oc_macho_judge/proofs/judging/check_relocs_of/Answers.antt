@@ -1,11 +1,8 @@
 -- What a section without a fault places lies in the file.
 use Rattle.std.proofs.Common.{Bool, cond, sym, ◌∙◌, ap, subst}
 use Rattle.oc_base.specs.Stops.{IsStop}
-use Rattle.oc_linking.specs.FirstFault.{Stage, stage_fault}
-use Rattle.oc_linking.specs.Keeping.{keeps}
-use Rattle.oc_macho.specs.Sections.{kind_of}
-use Rattle.oc_macho.specs.Framed.{table_at}
-use Rattle.oc_macho.specs.RelocationFaults.{entry_stage, no_stage}
+use Rattle.oc_linking.specs.{FirstFault.{Stage, stage_fault}, Keeping.{keeps}}
+use Rattle.oc_macho.specs.{Sections.{kind_of}, Framed.{table_at}, RelocationFaults.{entry_stage, no_stage}}
 use Rattle.oc_macho_judge.proofs.JudgingLemmas.{IsPlaced, section_placed, stage_is}
 use Rattle.oc_macho_judge.proofs.judging.check_relocs_of.Goals as goal
 

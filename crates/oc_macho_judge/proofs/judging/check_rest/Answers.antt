@@ -1,12 +1,9 @@
 -- The fault of the rest is that of the first stage that has one.
 use Rattle.std.proofs.Common.{◌∷◌, Option, ◌∙◌, ap}
 use Rattle.oc_base.specs.declared.fault.Fault.{Fault}
-use Rattle.oc_linking.specs.FirstFault.{first_fault}
-use Rattle.oc_linking.specs.Numbers.{or_else}
+use Rattle.oc_linking.specs.{FirstFault.{first_fault}, Numbers.{or_else}}
 use Rattle.oc_shelf.proofs.ReadingLaws.StageLemmas.{clean_first, stops_first, stops_later}
-use Rattle.oc_macho.specs.SectionFaults.{section_stage}
-use Rattle.oc_macho.specs.SymbolFaults.{symbol_stage}
-use Rattle.oc_macho.specs.RelocationFaults.{relocation_stages}
+use Rattle.oc_macho.specs.{SectionFaults.{section_stage}, SymbolFaults.{symbol_stage}, RelocationFaults.{relocation_stages}}
 use Rattle.oc_macho_judge.proofs.judging.check_rest.Goals as goal
 
 pub returns-in-Err-clause-stop : goal.returns-in-Err-clause-stop

@@ -1,7 +1,6 @@
 -- The fault of a file is that of its header, or of the rest.
 use Rattle.std.proofs.Common.{Option, sym, ◌∙◌, subst}
-use Rattle.oc_base.specs.declared.fault.Fault.{Fault}
-use Rattle.oc_base.specs.Stops.{IsStop}
+use Rattle.oc_base.specs.{declared.fault.Fault.{Fault}, Stops.{IsStop}}
 use Rattle.oc_macho_judge.proofs.JudgingLemmas.{behind_header, header_stops}
 use Rattle.oc_macho_judge.proofs.judging.judged.Goals as goal
 

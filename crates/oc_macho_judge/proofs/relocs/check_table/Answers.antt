@@ -1,10 +1,9 @@
 -- A field with a fault stops the table.
 use Rattle.std.proofs.Common.{◌≡◌, ℕ, ◌<◌, ◌≤◌, ◌∙◌, ap, length, None, refl, subst, arith}
 use Rattle.oc_shelf.specs.Reading.Bitmaps.{room}
-use Rattle.oc_macho.specs.RelocationFaults.{stored_size}
+use Rattle.oc_macho.specs.{RelocationFaults.{stored_size}, Framed.{table_at}}
 use Rattle.oc_linking.specs.Numbers.{first_upto}
 use Rattle.oc_shelf.proofs.ReadingLaws.StageLemmas.{clean_more, stops_at}
-use Rattle.oc_macho.specs.Framed.{table_at}
 use Rattle.oc_macho_judge.specs.Judged.{entry_fault}
 use Rattle.oc_macho_judge.proofs.RelocLemmas.{taken_none}
 use Rattle.oc_macho_judge.proofs.relocs.check_table.Goals as goal

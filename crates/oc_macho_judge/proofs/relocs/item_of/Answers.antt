@@ -1,9 +1,7 @@
 -- A pair has the entry behind it.
 use Rattle.std.proofs.Common.{Option, Some, sym, ◌∙◌, ap}
 use Rattle.oc_base.specs.declared.format.Word.{Word}
-use Rattle.oc_macho.specs.declared.relocation_info.RelocationInfo.{RelocationInfo}
-use Rattle.oc_macho.specs.Entries.{is_first}
-use Rattle.oc_macho.specs.Framed.{table_at}
+use Rattle.oc_macho.specs.{declared.relocation_info.RelocationInfo.{RelocationInfo}, Entries.{is_first}, Framed.{table_at}}
 use Rattle.oc_macho_judge.proofs.RelocLemmas.{item_is}
 use Rattle.oc_macho_judge.proofs.relocs.item_of.Goals as goal
 

@@ -1,16 +1,11 @@
 -- A field is judged by its own conditions, and then by the fields before.
 use Rattle.std.proofs.Common.{◌≡◌, ℕ, zero, suc, ◌^◌, ◌<◌, ◌≤◌, ◌∙◌, Bool, false, [], ◌∷◌, Option, None, Some, sym, ap, arith}
 use Rattle.std.specs.Option.{option_map_or}
-use Rattle.oc_base.specs.declared.code.Code.TheVariants.{FoldTooWide, Overlap}
-use Rattle.oc_base.specs.declared.fault.Fault.{Fault}
-use Rattle.oc_linking.specs.FirstFault.{first_broken}
-use Rattle.oc_linking.specs.Numbers.{or_else}
-use Rattle.oc_shelf.specs.Reading.Firsts.{any_upto}
-use Rattle.oc_shelf.specs.Reading.Spans.{meets}
+use Rattle.oc_base.specs.{declared.code.Code.TheVariants.{FoldTooWide, Overlap}, declared.fault.Fault.{Fault}}
+use Rattle.oc_linking.specs.{FirstFault.{first_broken}, Numbers.{or_else}}
+use Rattle.oc_shelf.specs.{Reading.Firsts.{any_upto}, Reading.Spans.{meets}}
 use Rattle.oc_shelf.proofs.ReadingLaws.BitmapLemmas.{met_in_upto}
-use Rattle.oc_macho.specs.declared.entries.Item.{Item}
-use Rattle.oc_macho.specs.declared.section_header.SectionHeader.{SectionHeader}
-use Rattle.oc_macho.specs.Framed.{table_at}
+use Rattle.oc_macho.specs.{declared.entries.Item.{Item}, declared.section_header.SectionHeader.{SectionHeader}, Framed.{table_at}}
 use Rattle.oc_macho.specs.Tables.{SectionTable, Tables}
 use Rattle.oc_macho.specs.RelocationFaults.{form_conditions, is_outside, is_too_wide, last_conditions, meets_upto, relocation_fault, span_at, span_of, target_conditions}
 use Rattle.oc_macho_judge.proofs.RelocLemmas.{field_in_room, inside_of, item_broken, kinds_of, span_is, taken_more}

@@ -1,7 +1,6 @@
 -- A section with a fault stops the stage.
 use Rattle.std.proofs.Common.{◌≡◌, ℕ, ◌<◌, length, None, refl, subst, arith}
-use Rattle.oc_linking.specs.FirstFault.{fault_of}
-use Rattle.oc_linking.specs.Numbers.{first_upto}
+use Rattle.oc_linking.specs.{FirstFault.{fault_of}, Numbers.{first_upto}}
 use Rattle.oc_linking.proofs.Upto.{first_upto_stop}
 use Rattle.oc_shelf.proofs.ReadingLaws.StageLemmas.{clean_more}
 use Rattle.oc_macho.specs.SectionFaults.{section_stage}

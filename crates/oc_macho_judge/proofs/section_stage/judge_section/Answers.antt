@@ -1,10 +1,8 @@
 -- The fault of a section is one of its own, or of the limits.
 use Rattle.std.proofs.Common.{Option, sym, ◌∙◌, ap}
 use Rattle.oc_base.specs.declared.fault.Fault.{Fault}
-use Rattle.oc_linking.specs.FirstFault.{first_broken}
-use Rattle.oc_linking.specs.Numbers.{or_else}
-use Rattle.oc_macho.specs.declared.section_header.SectionHeader.{SectionHeader}
-use Rattle.oc_macho.specs.SectionFaults.{limit_conditions, own_conditions}
+use Rattle.oc_linking.specs.{FirstFault.{first_broken}, Numbers.{or_else}}
+use Rattle.oc_macho.specs.{declared.section_header.SectionHeader.{SectionHeader}, SectionFaults.{limit_conditions, own_conditions}}
 use Rattle.oc_macho_judge.proofs.SectionLemmas.{section_broken}
 use Rattle.oc_macho_judge.proofs.section_stage.judge_section.Goals as goal
 

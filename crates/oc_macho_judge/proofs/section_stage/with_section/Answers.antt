@@ -1,7 +1,6 @@
 -- The sums with a section that keeps the limits.
 use Rattle.std.proofs.Common.{◌∙◌, ap, arith}
-use Rattle.oc_macho.specs.declared.section_header.SectionHeader.{SectionHeader}
-use Rattle.oc_macho.specs.SectionFaults.{stored_of}
+use Rattle.oc_macho.specs.{declared.section_header.SectionHeader.{SectionHeader}, SectionFaults.{stored_of}}
 use Rattle.oc_macho_judge.proofs.SectionLemmas.{sums_more}
 use Rattle.oc_macho_judge.proofs.section_stage.with_section.Goals as goal
 

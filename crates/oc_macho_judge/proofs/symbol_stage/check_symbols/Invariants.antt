@@ -1,7 +1,6 @@
 -- The symbols so far have no fault.
 use Rattle.std.proofs.Common.{◌≡◌, None}
-use Rattle.oc_linking.specs.FirstFault.{fault_of}
-use Rattle.oc_linking.specs.Numbers.{first_upto}
+use Rattle.oc_linking.specs.{FirstFault.{fault_of}, Numbers.{first_upto}}
 use Rattle.oc_macho.specs.SymbolFaults.{symbol_stage}
 use Rattle.oc_macho_judge.proofs.symbol_stage.check_symbols.Given as goal
 

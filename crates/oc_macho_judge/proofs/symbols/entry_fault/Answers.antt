@@ -1,8 +1,7 @@
 -- The fault is that of the first part that has one.
 use Rattle.std.proofs.Common.{Bool, cond, [], ◌++◌, Option, sym, ◌∙◌, ap}
 use Rattle.oc_base.specs.declared.fault.Fault.{Fault}
-use Rattle.oc_linking.specs.Numbers.{or_else}
-use Rattle.oc_linking.specs.FirstFault.{first_broken}
+use Rattle.oc_linking.specs.{Numbers.{or_else}, FirstFault.{first_broken}}
 use Rattle.oc_shelf.proofs.ReadingLaws.StageLemmas.{broken_of_three}
 use Rattle.oc_macho.specs.SymbolFaults.{kind_conditions, home_conditions, name_conditions, symbol_conditions}
 use Rattle.oc_macho_judge.proofs.symbols.entry_fault.Goals as goal

@@ -1,7 +1,6 @@
 -- A text that is longer is another.
 use Rattle.std.proofs.Common.{ℕ, List, [], Option, length, sym, ◌∙◌, ap}
-use Rattle.std.specs.Prelude.{bytes_eq}
-use Rattle.std.specs.Option.{unwrap_or}
+use Rattle.std.specs.{Prelude.{bytes_eq}, Option.{unwrap_or}}
 use Rattle.oc_shelf.specs.Reading.Texts.{text_at}
 use Rattle.oc_macho.specs.Symbols.{name_at}
 use Rattle.oc_macho.proofs.NameLemmas.{long_differs, short_is}

@@ -1,7 +1,6 @@
 -- A text is empty exactly where a NUL is its first byte.
 use Rattle.std.proofs.Common.{◌≡◌, ℕ, true, List, [], Option, sym, ◌∙◌, ap, arith}
-use Rattle.std.specs.Prelude.{bytes_eq, nat_eq, nat_le, slice_index_or}
-use Rattle.std.specs.Option.{unwrap_or}
+use Rattle.std.specs.{Prelude.{bytes_eq, nat_eq, nat_le, slice_index_or}, Option.{unwrap_or}}
 use Rattle.std.proofs.lemmas.Bool.Decides.{nat_tests}
 use Rattle.oc_macho.specs.Symbols.{name_at}
 use Rattle.oc_macho.proofs.NameLemmas.{empty_at}

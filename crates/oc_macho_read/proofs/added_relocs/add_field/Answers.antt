@@ -5,8 +5,7 @@ use Rattle.oc_neutral.specs.Building.{Draft}
 use Rattle.oc_shows.specs.Built.{HasAdded}
 use Rattle.std.proofs.lemmas.Result.{on_ok_weaker}
 use Rattle.oc_shows.proofs.BuiltSteps.{added_is}
-use Rattle.oc_macho_read.specs.Built.{started}
-use Rattle.oc_macho_read.specs.Given.{given_with}
+use Rattle.oc_macho_read.specs.{Built.{started}, Given.{given_with}}
 use Rattle.oc_macho_read.proofs.StepLemmas.{index_begins, index_low, item_aimed, item_inside, item_next, item_some}
 use Rattle.oc_macho_read.proofs.added_relocs.add_field.Goals as goal
 

@@ -1,8 +1,7 @@
 -- Nothing is given for no sections, and all for all.
 use Rattle.std.proofs.Common.{◌≡◌, [], length, sym, arith}
 use Rattle.oc_shows.proofs.BuiltSteps.{added_same}
-use Rattle.oc_macho_read.specs.Built.{started}
-use Rattle.oc_macho_read.specs.Given.{given_at, given_before}
+use Rattle.oc_macho_read.specs.{Built.{started}, Given.{given_at, given_before}}
 use Rattle.oc_macho_read.proofs.StepLemmas.{given_all, given_none}
 use Rattle.oc_macho_read.proofs.added_relocs.add_relocations.Goals as goal
 

@@ -2,13 +2,10 @@
 use Rattle.std.proofs.Common.{◌+◌, sym, ◌∙◌, ap}
 use Rattle.oc_linking.specs.Keeping.{keeps}
 use Rattle.oc_shows.proofs.BuiltSteps.{added_same}
-use Rattle.oc_macho.specs.Sections.{kind_of}
-use Rattle.oc_macho.specs.Framed.{table_at}
+use Rattle.oc_macho.specs.{Sections.{kind_of}, Framed.{table_at}}
 use Rattle.oc_macho_judge.proofs.SectionLemmas.{there}
-use Rattle.oc_macho_read.specs.Built.{started}
-use Rattle.oc_macho_read.specs.Given.{given_before}
-use Rattle.oc_macho_read.proofs.StepLemmas.{given_left}
-use Rattle.oc_macho_read.proofs.TableLemmas.{table_of}
+use Rattle.oc_macho_read.specs.{Built.{started}, Given.{given_before}}
+use Rattle.oc_macho_read.proofs.{StepLemmas.{given_left}, TableLemmas.{table_of}}
 use Rattle.oc_macho_read.proofs.added_relocs.add_relocs_of.Goals as goal
 
 pub add_table-requires-clause-table : goal.add_table-requires-clause-table

@@ -1,8 +1,7 @@
 -- With its last field a section is done.
 use Rattle.std.proofs.Common.{◌≡◌, ◌+◌, [], length, take, arith}
 use Rattle.oc_shows.proofs.BuiltSteps.{added_same}
-use Rattle.oc_macho_read.specs.Built.{started}
-use Rattle.oc_macho_read.specs.Given.{given_before, given_with}
+use Rattle.oc_macho_read.specs.{Built.{started}, Given.{given_before, given_with}}
 use Rattle.oc_macho_read.proofs.StepLemmas.{all_done, given_first}
 use Rattle.oc_macho_read.proofs.added_relocs.add_table.Goals as goal
 

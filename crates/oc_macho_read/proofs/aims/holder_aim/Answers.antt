@@ -1,7 +1,6 @@
 -- The section that holds an address is looked up.
 use Rattle.std.proofs.Common.{ℕ, Option, sym, ◌∙◌, ap, subst}
-use Rattle.std.specs.Prelude.{IsSome}
-use Rattle.std.specs.Option.{unwrap_or}
+use Rattle.std.specs.{Prelude.{IsSome}, Option.{unwrap_or}}
 use Rattle.oc_macho_read.specs.Given.{section_aim}
 use Rattle.oc_macho_read.proofs.MeantLemmas.{aimed_held}
 use Rattle.oc_macho_read.proofs.aims.holder_aim.Goals as goal

@@ -1,8 +1,7 @@
 -- The fields so far, and whether one begins with the next entry.
 use Rattle.std.proofs.Common.{◌≡◌}
 use Rattle.oc_shelf.specs.Reading.Collected.{collected}
-use Rattle.oc_macho.specs.Entries.{begins}
-use Rattle.oc_macho.specs.Framed.{table_at}
+use Rattle.oc_macho.specs.{Entries.{begins}, Framed.{table_at}}
 use Rattle.oc_macho_read.specs.Given.{placed}
 use Rattle.oc_macho_read.proofs.built_relocs.gathered.Given as goal
 

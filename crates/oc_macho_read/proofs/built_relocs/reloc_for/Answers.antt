@@ -1,8 +1,7 @@
 -- The relocation of a field is that of the row of its type.
 use Rattle.std.proofs.Common.{Some, sym, ◌∙◌, ap}
 use Rattle.oc_base.specs.declared.format.Word.{Word}
-use Rattle.oc_macho.specs.Framed.{table_at}
-use Rattle.oc_macho.specs.Meanings.{meaning_of}
+use Rattle.oc_macho.specs.{Framed.{table_at}, Meanings.{meaning_of}}
 use Rattle.oc_macho_judge.proofs.SectionLemmas.{there}
 use Rattle.oc_neutral.specs.declared.reloc.Reloc.{Reloc}
 use Rattle.oc_macho_read.proofs.MeantLemmas.{made_none, made_some, meant_width, stored_inside}

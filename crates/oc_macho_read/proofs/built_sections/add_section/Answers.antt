@@ -1,16 +1,11 @@
 -- A section without a fault passes no limit, so it is added.
 use Rattle.std.proofs.Common.{◌+◌, length, sym, ◌∙◌, ap, subst, arith, IsOk, refl}
-use Rattle.oc_neutral.specs.Building.{Draft, section_added}
-use Rattle.oc_neutral.specs.Invariants.{HasItsBytes, IsMember}
-use Rattle.oc_neutral.specs.declared.section.Section.{Section}
+use Rattle.oc_neutral.specs.{Building.{Draft, section_added}, Invariants.{HasItsBytes, IsMember}, declared.section.Section.{Section}}
 use Rattle.oc_shows.proofs.BuiltSteps.{added_is}
-use Rattle.oc_macho.specs.declared.section_header.SectionHeader.{SectionHeader}
-use Rattle.oc_macho.specs.Framed.{IsTable}
+use Rattle.oc_macho.specs.{declared.section_header.SectionHeader.{SectionHeader}, Framed.{IsTable}, Framed.{table_at}}
 use Rattle.oc_macho_judge.proofs.SectionLemmas.{there}
 use Rattle.oc_macho_read.specs.Built.{sectioned}
-use Rattle.oc_macho_read.proofs.SectionedLemmas.{no_group, section_room, section_taken, sound_section}
-use Rattle.oc_macho_read.proofs.TableLemmas.{bytes_long, table_of}
-use Rattle.oc_macho.specs.Framed.{table_at}
+use Rattle.oc_macho_read.proofs.{SectionedLemmas.{no_group, section_room, section_taken, sound_section}, TableLemmas.{bytes_long, table_of}}
 use Rattle.oc_macho_read.proofs.built_sections.add_section.Goals as goal
 
 pub section_of-requires-clause-table : goal.section_of-requires-clause-table

@@ -1,8 +1,7 @@
 -- Where no field begins, nothing is taken.
 use Rattle.std.proofs.Common.{sym, ◌∙◌, ap, subst}
 use Rattle.oc_base.specs.declared.format.Word.{Word}
-use Rattle.oc_macho.specs.Entries.{item_at, taken_reference}
-use Rattle.oc_macho.specs.Framed.{table_at}
+use Rattle.oc_macho.specs.{Entries.{item_at, taken_reference}, Framed.{table_at}}
 use Rattle.oc_macho_read.specs.Pins.{AreMarks, marked}
 use Rattle.oc_macho_read.proofs.PinLemmas.{marked_more, marked_none}
 use Rattle.oc_macho_read.proofs.pins.mark_entry.Goals as goal

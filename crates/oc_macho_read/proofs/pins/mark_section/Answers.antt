@@ -3,8 +3,7 @@ use Rattle.std.proofs.Common.{sym, ◌∙◌, ap}
 use Rattle.oc_linking.specs.Keeping.{keeps}
 use Rattle.oc_macho.specs.Sections.{kind_of}
 use Rattle.oc_macho_read.specs.Pins.{is_pinned_upto}
-use Rattle.oc_macho_read.proofs.PinLemmas.{pinned_kept, pinned_left}
-use Rattle.oc_macho_read.proofs.TableLemmas.{table_of}
+use Rattle.oc_macho_read.proofs.{PinLemmas.{pinned_kept, pinned_left}, TableLemmas.{table_of}}
 use Rattle.oc_macho_read.proofs.pins.mark_section.Goals as goal
 
 pub mark_table-requires : goal.mark_table-requires

@@ -1,11 +1,9 @@
 -- What is built can be finished, and what is read shows the file.
 use Rattle.std.proofs.Common.{sym, subst, arith}
 use Rattle.oc_neutral.specs.Invariants.{IsDraft}
-use Rattle.oc_shows.specs.Readable.{IsReadable}
-use Rattle.oc_shows.specs.Shows.{Shows}
+use Rattle.oc_shows.specs.{Readable.{IsReadable}, Shows.{Shows}}
 use Rattle.oc_macho.specs.Rules.{mach_dialect}
-use Rattle.oc_macho_read.proofs.ShownLemmas.{stages_clean}
-use Rattle.oc_macho_read.proofs.WholeLemmas.{start_of_tables, whole_complete, whole_readable, whole_shows}
+use Rattle.oc_macho_read.proofs.{ShownLemmas.{stages_clean}, WholeLemmas.{start_of_tables, whole_complete, whole_readable, whole_shows}}
 use Rattle.oc_macho_read.proofs.reader.object_of.Goals as goal
 
 pub start-requires-clause-read : goal.start-requires-clause-read

@@ -2,8 +2,7 @@
 use Rattle.std.proofs.Common.{◌≡◌, sym, ◌∙◌, ap, subst}
 use Rattle.oc_base.specs.declared.format.Word.{Word}
 use Rattle.oc_shows.specs.Shows.{Shows}
-use Rattle.oc_macho.specs.Rules.{mach_dialect}
-use Rattle.oc_macho.specs.Tables.{Tables, tables_of}
+use Rattle.oc_macho.specs.{Rules.{mach_dialect}, Tables.{Tables, tables_of}}
 use Rattle.oc_macho.proofs.FrameLemmas.{word_is}
 use Rattle.oc_macho_read.proofs.reader.read_bytes.Goals as goal
 

@@ -1,13 +1,12 @@
 -- Each turn lays its section, where that is one of those.
 use Rattle.std.proofs.Common.{◌≡◌, ◌≤◌, ◌<◌, ◌+◌, ◌^◌, set, length, rules, sym, ◌∙◌, ap, subst, arith}
 use Rattle.std.proofs.lemmas.Nat.{pow_pos}
-use Rattle.oc_neutral.specs.declared.section.Section.{Section}
-use Rattle.oc_neutral.specs.Invariants.{IsAlign}
+use Rattle.oc_neutral.specs.{declared.section.Section.{Section}, Invariants.{IsAlign}}
 use Rattle.oc_neutral.proofs.Positions.{each_at}
 use Rattle.oc_shelf.specs.Writing.Parts.{aligned}
 use Rattle.oc_macho_write.proofs.AddressLemmas.{IsLaying, laying_begun, laying_done, laying_low, laying_more, laying_passed, laying_room, own_kind, other_kind}
-use Rattle.oc_macho_write.proofs.addresses.lay_sections.Goals as goal
 use Rattle.oc_macho_write.proofs.addresses.lay_sections.Goals.{then-is_blank-blank, else-is_blank-blank}
+use Rattle.oc_macho_write.proofs.addresses.lay_sections.Goals as goal
 
 pub loop-k-init : goal.loop-k-init
 loop-k-init c = laying_begun c.args.blank c.args.neutral.now c.args.at c.args.addresses.now c.requires.counted

@@ -2,15 +2,11 @@
 use Rattle.std.proofs.Common.{◌≡◌, length, rules, sym, ◌∙◌, ap, subst, arith}
 use Rattle.std.proofs.lemmas.Option.{same_Some}
 use Rattle.std.specs.Vec.{vec_len}
-use Rattle.oc_neutral.specs.declared.section.Section.{Section}
-use Rattle.oc_neutral.specs.Mach.Kinds.{segment_of, section_of}
-use Rattle.oc_macho_file.specs.Addresses.{address_of}
-use Rattle.oc_macho_file.specs.Canonical.{pointer_to, section_header}
-use Rattle.oc_macho_file.specs.Layout.{is_raw, is_relocs, part_where, relocs_of}
+use Rattle.oc_neutral.specs.{declared.section.Section.{Section}, Mach.Kinds.{segment_of, section_of}}
+use Rattle.oc_macho_file.specs.{Addresses.{address_of}, Canonical.{pointer_to, section_header}, Layout.{is_raw, is_relocs, part_where, relocs_of}}
 use Rattle.oc_macho.specs.Structures.{padded}
 use Rattle.oc_macho_file.proofs.CodedLaws.{for_mach, meets_section}
-use Rattle.oc_macho_write.proofs.BodyLemmas.{many_relocs, vector_is}
-use Rattle.oc_macho_write.proofs.HeaderLemmas.{count_low, header_by, raw_low, relocs_low, section_header_is}
+use Rattle.oc_macho_write.proofs.{BodyLemmas.{many_relocs, vector_is}, HeaderLemmas.{count_low, header_by, raw_low, relocs_low, section_header_is}}
 use Rattle.oc_shelf.proofs.WritingLaws.LayoutLemmas.{get_any}
 use Rattle.oc_macho_write.proofs.headers.section_header.Goals as goal
 

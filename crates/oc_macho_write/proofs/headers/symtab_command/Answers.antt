@@ -4,11 +4,8 @@ use Rattle.std.proofs.lemmas.List.{length-map}
 use Rattle.oc_strings.specs.Tables.{StringTable}
 use Rattle.oc_shelf.specs.Writing.Parts.{aligned}
 use Rattle.oc_macho.specs.MachHeader.{address_size}
-use Rattle.oc_macho_file.specs.Layout.{strings_of}
-use Rattle.oc_macho_file.specs.Lines.{lines_of}
-use Rattle.oc_macho_file.specs.Symbols.{line_entry}
-use Rattle.oc_macho_file.proofs.CodedLaws.{for_mach}
-use Rattle.oc_macho_file.proofs.CountLaws.{few_lines}
+use Rattle.oc_macho_file.specs.{Layout.{strings_of}, Lines.{lines_of}, Symbols.{line_entry}}
+use Rattle.oc_macho_file.proofs.{CodedLaws.{for_mach}, CountLaws.{few_lines}}
 use Rattle.oc_macho_write.proofs.HeaderLemmas.{strings_low, symbols_low, symtab_is, table_long, table_low, text_low}
 use Rattle.oc_macho_write.proofs.headers.symtab_command.Goals as goal
 

@@ -4,8 +4,7 @@ use Rattle.std.proofs.lemmas.List.{length-append}
 use Rattle.oc_base.specs.declared.format.Word.{Word}
 use Rattle.oc_neutral.specs.Objects.{Object}
 use Rattle.oc_macho_file.specs.Lines.{inner_lines, defined_lines, undefined_lines, lines_of}
-use Rattle.oc_macho_file.proofs.CodedLaws.{for_mach}
-use Rattle.oc_macho_file.proofs.CountLaws.{few_lines}
+use Rattle.oc_macho_file.proofs.{CodedLaws.{for_mach}, CountLaws.{few_lines}}
 use Rattle.oc_macho.specs.declared.structures.Dysymtab.{Dysymtab}
 use Rattle.oc_macho_write.proofs.LineLemmas.{as_many_lines}
 use Rattle.oc_macho_write.proofs.heads.heads_of.Goals as goal

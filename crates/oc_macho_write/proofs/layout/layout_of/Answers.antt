@@ -1,19 +1,14 @@
 -- Each turn lays the next part.
 use Rattle.std.proofs.Common.{◌≤◌, List, length, get_or, take, sym, ◌∙◌, ap, subst, arith}
 use Rattle.std.specs.Option.{is_some}
-use Rattle.std.proofs.lemmas.List.{take_all}
-use Rattle.std.proofs.lemmas.Option.{slice_get-get_or}
+use Rattle.std.proofs.lemmas.{List.{take_all}, Option.{slice_get-get_or}}
 use Rattle.oc_neutral.specs.declared.section.Section.{Section}
 use Rattle.oc_macho_file.specs.Layout as layout
 use Rattle.oc_macho_file.specs.Layout.{parts_of}
-use Rattle.oc_macho_file.proofs.CodedLaws.{for_mach}
-use Rattle.oc_macho_file.proofs.PartLaws.{rises}
+use Rattle.oc_macho_file.proofs.{CodedLaws.{for_mach}, PartLaws.{rises}}
 use Rattle.oc_macho_write.specs.declared.parts.Part.TheVariants as part
-use Rattle.oc_macho_write.specs.Bodies.{IsSmall, size_by}
-use Rattle.oc_macho_write.specs.LaidParts.{AreLaid}
-use Rattle.oc_macho_write.proofs.BodyLemmas.{has_body, part_listed, size_is}
-use Rattle.oc_macho_write.proofs.LaidLemmas.{end_by, part_room}
-use Rattle.oc_macho_write.proofs.PartLemmas.{as_many_parts}
+use Rattle.oc_macho_write.specs.{Bodies.{IsSmall, size_by}, LaidParts.{AreLaid}}
+use Rattle.oc_macho_write.proofs.{BodyLemmas.{has_body, part_listed, size_is}, LaidLemmas.{end_by, part_room}, PartLemmas.{as_many_parts}}
 use Rattle.oc_macho_write.proofs.layout.layout_of.Goals as goal
 use Rattle.oc_neutral.proofs.FieldLists.{take_here}
 

@@ -1,15 +1,12 @@
 -- By what the part is.
 use Rattle.std.proofs.Common.{◌≡◌, length, Some, rules, ◌∙◌, ap, subst, arith}
-use Rattle.std.specs.Prelude.{IsSome}
-use Rattle.std.specs.Option.{is_some}
-use Rattle.std.specs.Vec.{vec_len}
+use Rattle.std.specs.{Prelude.{IsSome}, Option.{is_some}, Vec.{vec_len}}
 use Rattle.oc_shelf.specs.Writing.Parts.{aligned}
 use Rattle.oc_macho_file.specs.Layout as layout
 use Rattle.oc_macho_file.specs.Layout.{entries_align, relocs_of}
 use Rattle.oc_macho_file.proofs.CodedLaws.{align_some, for_mach, meets_section}
 use Rattle.oc_macho_write.specs.Parts.{part_in}
-use Rattle.oc_macho_write.proofs.BodyLemmas.{many_relocs, vector_is}
-use Rattle.oc_macho_write.proofs.LaidLemmas.{begin_of, part_within}
+use Rattle.oc_macho_write.proofs.{BodyLemmas.{many_relocs, vector_is}, LaidLemmas.{begin_of, part_within}}
 use Rattle.oc_macho_write.proofs.layout.part_begin.Goals as goal
 
 pub aligned_place-requires-clause-some : goal.aligned_place-requires-clause-some

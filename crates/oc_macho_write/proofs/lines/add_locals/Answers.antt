@@ -1,11 +1,9 @@
 -- Each turn adds the line of its symbol, where it passes.
 use Rattle.std.proofs.Common.{ℕ, ◌≤◌, ◌&&◌, ◌∙◌, length, map, sym, ap, arith}
-use Rattle.std.specs.List.{enumerate_from, filter}
-use Rattle.std.specs.Option.{option_map}
+use Rattle.std.specs.{List.{enumerate_from, filter}, Option.{option_map}}
 use Rattle.std.proofs.lemmas.List.{drop_all}
 use Rattle.oc_linking.specs.Parts.{is_local}
-use Rattle.oc_neutral.specs.declared.symbol.Symbol.{Symbol}
-use Rattle.oc_neutral.specs.WrittenSymbols.{is_written}
+use Rattle.oc_neutral.specs.{declared.symbol.Symbol.{Symbol}, WrittenSymbols.{is_written}}
 use Rattle.oc_macho_file.specs.Lines.{LocalLine}
 use Rattle.oc_macho_write.specs.Lines.{line_in}
 use Rattle.oc_macho_write.specs.declared.lines.Line.TheVariants as line

@@ -1,8 +1,7 @@
 use Rattle.std.proofs.Common.{◌≡◌, ℕ, ◌&&◌, ◌++◌, map, drop, Some}
 use Rattle.std.specs.List.{enumerate_from, filter}
 use Rattle.oc_linking.specs.Parts.{is_local}
-use Rattle.oc_neutral.specs.declared.symbol.Symbol.{Symbol}
-use Rattle.oc_neutral.specs.WrittenSymbols.{is_written}
+use Rattle.oc_neutral.specs.{declared.symbol.Symbol.{Symbol}, WrittenSymbols.{is_written}}
 use Rattle.oc_macho_file.specs.Lines.{LocalLine, local_lines}
 use Rattle.oc_macho_write.specs.Lines.{lines_in}
 use Rattle.oc_macho_write.proofs.lines.add_locals.Given as goal

@@ -1,7 +1,6 @@
 -- Each turn adds the line of its symbol, where it passes.
 use Rattle.std.proofs.Common.{ℕ, ◌≤◌, length, map, ap, arith}
-use Rattle.std.specs.List.{enumerate_from, filter}
-use Rattle.std.specs.Option.{option_map}
+use Rattle.std.specs.{List.{enumerate_from, filter}, Option.{option_map}}
 use Rattle.std.proofs.lemmas.List.{drop_all}
 use Rattle.oc_neutral.specs.declared.symbol.Symbol.{Symbol}
 use Rattle.oc_macho_file.specs.Lines.{OuterLine}

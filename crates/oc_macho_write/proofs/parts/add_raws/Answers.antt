@@ -1,11 +1,9 @@
 -- Each turn adds the part of its section, where that has bytes.
 use Rattle.std.proofs.Common.{◌≤◌, not, length, map, ap, arith}
-use Rattle.std.specs.List.{enumerate_from, filter}
-use Rattle.std.specs.Option.{option_map}
+use Rattle.std.specs.{List.{enumerate_from, filter}, Option.{option_map}}
 use Rattle.std.proofs.lemmas.List.{drop_all}
 use Rattle.oc_neutral.specs.declared.section.Section.{Section}
-use Rattle.oc_macho_file.specs.Addresses.{Numbered, is_blank}
-use Rattle.oc_macho_file.specs.Layout.{Raw, raw_part}
+use Rattle.oc_macho_file.specs.{Addresses.{Numbered, is_blank}, Layout.{Raw, raw_part}}
 use Rattle.oc_macho_write.specs.Parts.{part_in}
 use Rattle.oc_macho_write.specs.declared.parts.Part.TheVariants as part
 use Rattle.oc_plans.proofs.Turns.{filter_step, turn_if, whole}

@@ -1,7 +1,6 @@
 use Rattle.std.proofs.Common.{◌≡◌, not, ◌++◌, map, drop, Some}
 use Rattle.std.specs.List.{enumerate_from, filter}
-use Rattle.oc_macho_file.specs.Addresses.{Numbered, is_blank, stored_sections}
-use Rattle.oc_macho_file.specs.Layout.{raw_part}
+use Rattle.oc_macho_file.specs.{Addresses.{Numbered, is_blank, stored_sections}, Layout.{raw_part}}
 use Rattle.oc_macho_write.specs.Parts.{parts_in}
 use Rattle.oc_macho_write.proofs.parts.add_raws.Given as goal
 

@@ -1,7 +1,6 @@
 -- Each turn adds the next part.
 use Rattle.std.proofs.Common.{◌≤◌, ◌<◌, [], ◌∷◌, length, map, ap, arith}
-use Rattle.std.specs.List.{enumerate_from}
-use Rattle.std.specs.Option.{option_map}
+use Rattle.std.specs.{List.{enumerate_from}, Option.{option_map}}
 use Rattle.std.proofs.lemmas.List.{drop_all}
 use Rattle.oc_neutral.proofs.Positions.{there_at}
 use Rattle.oc_macho_file.specs.Layout.{Relocs, relocs_part}

@@ -7,10 +7,8 @@ use Rattle.oc_macho.specs.MachHeader.{mach_format}
 use Rattle.oc_shelf.specs.Writing.Parts.{Laid}
 use Rattle.oc_macho_file.specs.Layout as layout
 use Rattle.oc_macho_file.specs.Layout.{laid_parts, parts_of}
-use Rattle.oc_macho_write.specs.LaidParts.{AreLaid}
-use Rattle.oc_macho_write.specs.Relocations.{all_raws}
-use Rattle.oc_macho_write.proofs.PartLemmas.{as_many_parts}
-use Rattle.oc_macho_write.proofs.PlaceLemmas.{as_many_laid}
+use Rattle.oc_macho_write.specs.{LaidParts.{AreLaid}, Relocations.{all_raws}}
+use Rattle.oc_macho_write.proofs.{PartLemmas.{as_many_parts}, PlaceLemmas.{as_many_laid}}
 use Rattle.oc_macho_write.proofs.planning.made_of.Goals as goal
 
 pub of-requires-2-clause-counted : goal.of-requires-2-clause-counted

@@ -2,16 +2,12 @@
 use Rattle.std.proofs.Common.{map, refl, sym, ◌∙◌, ap, subst}
 use Rattle.std.specs.List.{enumerate_from}
 use Rattle.oc_chains.specs.Lists.{Lists, list_of}
-use Rattle.oc_neutral.specs.declared.reloc.Reloc.{Reloc}
-use Rattle.oc_neutral.specs.declared.section.Section.{Section}
-use Rattle.oc_neutral.specs.Objects.{Object}
+use Rattle.oc_neutral.specs.{declared.reloc.Reloc.{Reloc}, declared.section.Section.{Section}, Objects.{Object}}
 use Rattle.oc_plans.specs.Numbered.{AreAll}
 use Rattle.oc_plans.proofs.FieldBytes.{parts_numbered, parts_within}
 use Rattle.oc_macho_file.proofs.CodedLaws.{for_mach}
-use Rattle.oc_macho_write.specs.declared.forms.FieldContext.{FieldContext}
-use Rattle.oc_macho_write.specs.Relocations.{CanTell, number_at}
-use Rattle.oc_macho_write.proofs.PlannedLemmas.{raws_are}
-use Rattle.oc_macho_write.proofs.SceneLemmas.{all_told}
+use Rattle.oc_macho_write.specs.{declared.forms.FieldContext.{FieldContext}, Relocations.{CanTell, number_at}}
+use Rattle.oc_macho_write.proofs.{PlannedLemmas.{raws_are}, SceneLemmas.{all_told}}
 use Rattle.oc_macho_write.proofs.planning.sections_of.Goals as goal
 
 pub with_numbers-requires-clause-there : goal.with_numbers-requires-clause-there

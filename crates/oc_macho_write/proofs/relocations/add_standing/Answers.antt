@@ -3,8 +3,7 @@ use Rattle.std.proofs.Common.{◌≡◌, ℕ, Bool, true, false, cond, refl, Lis
 use mir.Val.{bool_byte}
 use Rattle.oc_macho.specs.declared.relocation_info.RelocationInfo.{RelocationInfo}
 use Rattle.oc_macho_file.specs.Lines.{numbered_lines}
-use Rattle.oc_macho_write.proofs.FormLemmas.{alone_relative, its_row, pair_takes, spelled_one, spelled_pair}
-use Rattle.oc_macho_write.proofs.RelocationLemmas.{alone_entries, pair_standing}
+use Rattle.oc_macho_write.proofs.{FormLemmas.{alone_relative, its_row, pair_takes, spelled_one, spelled_pair}, RelocationLemmas.{alone_entries, pair_standing}}
 use Rattle.oc_macho_write.proofs.relocations.add_standing.Goals as goal
 
 -- what a test is as a number

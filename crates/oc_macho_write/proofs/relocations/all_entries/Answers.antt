@@ -1,14 +1,12 @@
 -- Each turn adds the entries of the next section.
 use Rattle.std.proofs.Common.{ℕ, ◌+◌, ◌<◌, List, [], ◌∷◌, ◌++◌, length, map, drop, ◌∙◌, ap, arith, Vec, Global}
 use Rattle.std.specs.List.{enumerate_from}
-use Rattle.oc_neutral.specs.declared.section.Section.{Section}
-use Rattle.oc_neutral.specs.Objects.{Object}
+use Rattle.oc_neutral.specs.{declared.section.Section.{Section}, Objects.{Object}}
 use Rattle.oc_neutral.proofs.Positions.{there_at}
 use Rattle.oc_target.proofs.Steps.{more_done}
 use Rattle.oc_macho.specs.declared.relocation_info.RelocationInfo.{RelocationInfo}
 use Rattle.oc_macho_file.specs.Layout.{relocs_of}
-use Rattle.oc_macho_write.specs.Relocations.{all_entries}
-use Rattle.oc_macho_write.specs.Words.{items_of}
+use Rattle.oc_macho_write.specs.{Relocations.{all_entries}, Words.{items_of}}
 use Rattle.oc_plans.proofs.Turns.{map_append, map_step}
 use Rattle.oc_macho_write.proofs.relocations.all_entries.Goals as goal
 

@@ -2,8 +2,7 @@ use Rattle.std.proofs.Common.{◌≡◌, ℕ, ◌++◌, map, drop}
 use Rattle.std.specs.List.{enumerate_from}
 use Rattle.oc_neutral.specs.declared.section.Section.{Section}
 use Rattle.oc_macho_file.specs.Layout.{relocs_of}
-use Rattle.oc_macho_write.specs.Relocations.{all_entries}
-use Rattle.oc_macho_write.specs.Words.{items_of}
+use Rattle.oc_macho_write.specs.{Relocations.{all_entries}, Words.{items_of}}
 use Rattle.oc_macho_write.proofs.relocations.all_entries.Given as goal
 
 -- the entries of the sections so far, and those that are left

@@ -2,8 +2,7 @@
 use Rattle.std.proofs.Common.{◌≡◌, [], ◌∷◌, rules}
 use Rattle.oc_chains.specs.Lists.{list_of}
 use Rattle.oc_macho_file.proofs.CodedLaws.{for_mach}
-use Rattle.oc_macho_write.proofs.RelocationLemmas.{making_begun, making_can, making_more, making_done}
-use Rattle.oc_macho_write.proofs.SceneLemmas.{all_can, scene_ready, sized_numbers}
+use Rattle.oc_macho_write.proofs.{RelocationLemmas.{making_begun, making_can, making_more, making_done}, SceneLemmas.{all_can, scene_ready, sized_numbers}}
 use Rattle.oc_macho_write.proofs.relocations.entries_of.Goals as goal
 
 pub loop-field-init : goal.loop-field-init

@@ -1,20 +1,14 @@
 -- Each turn gives the name of its line; the names have room.
 use Rattle.std.proofs.Common.{◌≡◌, ◌≤◌, ◌+◌, ◌<◌, ◌^◌, List, ℕ, [], ◌∷◌, ◌++◌, length, map, sym, ◌∙◌, ap, subst, arith}
-use Rattle.std.specs.Prelude.{sum_by}
-use Rattle.std.specs.Option.{is_some}
-use Rattle.std.proofs.lemmas.List.{drop_all}
-use Rattle.std.proofs.lemmas.Option.{slice_get-get_or}
-use Rattle.std.proofs.lemmas.Result.{IfOk-weaker}
+use Rattle.std.specs.{Prelude.{sum_by}, Option.{is_some}}
+use Rattle.std.proofs.lemmas.{List.{drop_all}, Option.{slice_get-get_or}, Result.{IfOk-weaker}}
 use Rattle.oc_strings.specs.Tables.{StringTable}
 use Rattle.oc_target.proofs.Giving.{more_given, all_given}
-use Rattle.oc_macho_file.specs.Layout.{line_names}
-use Rattle.oc_macho_file.specs.Lines.{line_name, lines_of}
+use Rattle.oc_macho_file.specs.{Layout.{line_names}, Lines.{line_name, lines_of}}
 use Rattle.oc_macho_file.proofs.CodedLaws.{for_mach}
 use Rattle.oc_macho_write.specs.declared.lines.Line.TheVariants as line
 use Rattle.oc_macho_write.specs.Strings.{table_with}
-use Rattle.oc_macho_write.proofs.LineLemmas.{line_listed, as_many_lines}
-use Rattle.oc_macho_write.proofs.StringLemmas.{ended_size, few_names}
-use Rattle.oc_macho_write.proofs.Turns.{name_step}
+use Rattle.oc_macho_write.proofs.{LineLemmas.{line_listed, as_many_lines}, StringLemmas.{ended_size, few_names}, Turns.{name_step}}
 use Rattle.oc_macho_write.proofs.strings.strings_of.Goals as goal
 
 pub loop-line-init : goal.loop-line-init

@@ -1,7 +1,6 @@
 use Rattle.std.proofs.Common.{◌≡◌, ◌++◌, map, drop}
 use Rattle.oc_base.specs.declared.format.Word.{Word}
-use Rattle.oc_macho_file.specs.Layout.{line_names}
-use Rattle.oc_macho_file.specs.Lines.{line_name, lines_of}
+use Rattle.oc_macho_file.specs.{Layout.{line_names}, Lines.{line_name, lines_of}}
 use Rattle.oc_macho_write.specs.Lines.{AreLines}
 use Rattle.oc_macho_write.proofs.strings.strings_of.Given as goal
 

@@ -1,18 +1,13 @@
 -- Each turn adds the entry of its line.
 use Rattle.std.proofs.Common.{◌≤◌, List, [], ◌∷◌, ◌++◌, length, map, sym, ap, ◌∙◌, subst, arith}
-use Rattle.std.specs.List.{Contains}
-use Rattle.std.specs.Option.{is_some}
-use Rattle.std.proofs.lemmas.List.{drop_all}
-use Rattle.std.proofs.lemmas.Option.{same_Some, slice_get-get_or}
+use Rattle.std.specs.{List.{Contains}, Option.{is_some}}
+use Rattle.std.proofs.lemmas.{List.{drop_all}, Option.{same_Some, slice_get-get_or}}
 use Rattle.oc_strings.specs.Tables.{StringTable}
 use Rattle.oc_target.proofs.Giving.{more_given, all_given}
 use Rattle.oc_macho.specs.declared.nlist.Nlist.{Nlist}
-use Rattle.oc_macho_file.specs.Lines.{Line, line_name, lines_of}
-use Rattle.oc_macho_file.specs.Symbols.{line_entry}
+use Rattle.oc_macho_file.specs.{Lines.{Line, line_name, lines_of}, Symbols.{line_entry}}
 use Rattle.oc_macho_write.specs.declared.lines.Line.TheVariants as line
-use Rattle.oc_macho_write.proofs.LineLemmas.{line_listed, as_many_lines}
-use Rattle.oc_macho_write.proofs.NumberLemmas.{own_named}
-use Rattle.oc_macho_write.proofs.StringLemmas.{named_among}
+use Rattle.oc_macho_write.proofs.{LineLemmas.{line_listed, as_many_lines}, NumberLemmas.{own_named}, StringLemmas.{named_among}}
 use Rattle.oc_macho_write.proofs.symbols.nlists_of.Goals as goal
 use Rattle.oc_neutral.proofs.FieldLists.{drop_here}
 

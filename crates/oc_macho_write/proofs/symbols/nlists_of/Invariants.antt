@@ -1,10 +1,7 @@
 use Rattle.std.proofs.Common.{◌≡◌, ◌++◌, map, drop}
 use Rattle.oc_base.specs.declared.format.Word.{Word}
-use Rattle.oc_macho_file.specs.Layout.{line_names}
-use Rattle.oc_macho_file.specs.Lines.{lines_of}
-use Rattle.oc_macho_file.specs.Symbols.{line_entry}
-use Rattle.oc_macho_write.specs.Lines.{AreLines}
-use Rattle.oc_macho_write.specs.Strings.{table_with}
+use Rattle.oc_macho_file.specs.{Layout.{line_names}, Lines.{lines_of}, Symbols.{line_entry}}
+use Rattle.oc_macho_write.specs.{Lines.{AreLines}, Strings.{table_with}}
 use Rattle.oc_macho_write.proofs.symbols.nlists_of.Given as goal
 
 -- the entries so far, and those that are left

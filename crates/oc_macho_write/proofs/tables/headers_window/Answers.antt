@@ -1,12 +1,10 @@
 -- A header more fills the buffer further.
 use Rattle.std.proofs.Common.{◌≡◌, ℕ, ◌*◌, ◌/◌, ◌<◌, ◌≤◌, List, [], ◌++◌, length, map, take, drop, subst, sym, ◌∙◌, ap, arith, rules}
 use Rattle.std.proofs.lemmas.List.{length-map}
-use Rattle.oc_base.specs.declared.format.Word.{Word}
-use Rattle.oc_base.specs.declared.format.Word.TheVariants.{W32, W64}
+use Rattle.oc_base.specs.{declared.format.Word.{Word}, declared.format.Word.TheVariants.{W32, W64}}
 use Rattle.oc_shelf.specs.Writing.Parts.{table_of}
 use Rattle.oc_outside.specs.Windows.{IsFilled}
-use Rattle.oc_macho.specs.SectionHeader.{section_header_size}
-use Rattle.oc_macho.specs.Structures.{section_bytes}
+use Rattle.oc_macho.specs.{SectionHeader.{section_header_size}, Structures.{section_bytes}}
 use Rattle.oc_shelf.proofs.WritingLaws.TableLemmas.{rows_cut, rows_long, rows_more, table_long, times_quotient, times_rises}
 use Rattle.oc_shelf.proofs.WritingLaws.WindowLemmas.{filled_full, filled_nothing}
 use Rattle.oc_plans.proofs.PlacedLemmas.{mapped_at}

@@ -1,7 +1,5 @@
 use Rattle.std.proofs.Common.{◌≡◌, ℕ, ◌+◌, ◌*◌, ◌%◌, ◌<◌, ◌++◌, ◌∷◌, [], List, sym, ◌∙◌, ap, subst, arith}
-use Rattle.oc_chains.specs.declared.field.Field.{Field}
-use Rattle.oc_chains.specs.Fields.{field, FollowFrom}
-use Rattle.oc_chains.specs.Lists.{held_in, list_of, Lists}
+use Rattle.oc_chains.specs.{declared.field.Field.{Field}, Fields.{field, FollowFrom}, Lists.{held_in, list_of, Lists}}
 use Rattle.oc_neutral.specs.declared.reloc.Reloc.{Reloc}
 use Rattle.oc_made.specs.Functions.{call, calls_of}
 use Rattle.oc_made.proofs.CallLemmas.{calls_from, calls_more, few_before, few_with_first, first_call, first_follows, second_follows}

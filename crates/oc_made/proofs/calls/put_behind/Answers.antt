@@ -1,8 +1,6 @@
 use Rattle.std.proofs.Common.{Err, set, sym, ◌∙◌, ap}
 use Rattle.std.proofs.lemmas.Bool.{true≢false}
-use Rattle.oc_chains.specs.declared.fault.ChainFault.{ChainFault}
-use Rattle.oc_chains.specs.Fields.{field}
-use Rattle.oc_chains.specs.Lists.{list_of}
+use Rattle.oc_chains.specs.{declared.fault.ChainFault.{ChainFault}, Fields.{field}, Lists.{list_of}}
 use Rattle.oc_made.proofs.Behind.{behind_ends, behind_free, behind_placed, set_alone}
 use Rattle.oc_made.proofs.calls.put_behind.Goals as goal
 

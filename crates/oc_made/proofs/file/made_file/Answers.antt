@@ -1,14 +1,12 @@
 -- What is made is ready for ELF.
 use Rattle.std.proofs.Common.{◌≡◌, ℕ, ◌≤◌, sym, ◌∙◌, ap, subst}
 use Rattle.std.proofs.lemmas.Result.{IfOk-weaker}
-use Rattle.oc_base.specs.declared.format.Word.{Word}
-use Rattle.oc_base.specs.declared.format.Word.TheVariants.{W32, W64}
+use Rattle.oc_base.specs.{declared.format.Word.{Word}, declared.format.Word.TheVariants.{W32, W64}}
 use Rattle.oc_target.specs.Fitted.{IsFitted}
 use Rattle.oc_neutral.specs.Objects.{Object}
 use Rattle.oc_elf.specs.declared.class.ElfClass.TheVariants.{Class32, Class64}
 use Rattle.oc_elf_file.specs.Canonical.{elf_file}
-use Rattle.oc_made.specs.Files.{made_bytes}
-use Rattle.oc_made.specs.Functions.{elf_format, made_object}
+use Rattle.oc_made.specs.{Files.{made_bytes}, Functions.{elf_format, made_object}}
 use Rattle.oc_made.proofs.ReadyElf.{made_is_fitted}
 use Rattle.oc_made.proofs.file.made_file.Goals as goal
 

@@ -1,17 +1,11 @@
 use Rattle.std.proofs.Common.{[], Ok, length, arith, ◌≤◌, ◌^◌, ◌≡◌, List, None, sym, ◌∙◌, ap, subst}
 use Rattle.std.proofs.lemmas.Bool.Decides.{nat_tests}
-use Rattle.oc_names.specs.declared.edit.Edit.{Edit}
-use Rattle.oc_names.specs.Naming.{named_object, all_named, groups_named, parts_fault}
-use Rattle.oc_names.proofs.Unedited.{named_object_same, no_items}
+use Rattle.oc_names.specs.{declared.edit.Edit.{Edit}, Naming.{named_object, all_named, groups_named, parts_fault}}
+use Rattle.oc_names.proofs.{Unedited.{named_object_same, no_items}, FieldBounds.{parts_same}, NamedObject.{named_is_object}}
 use Rattle.std.specs.List.{AllByRecursion}
 use Rattle.oc_base.specs.declared.format.Format.{Format}
-use Rattle.oc_neutral.specs.declared.group.Group.{Group}
-use Rattle.oc_neutral.specs.declared.section.Section.{Section}
-use Rattle.oc_neutral.specs.declared.symbol.Symbol.{Symbol}
-use Rattle.oc_neutral.specs.Objects.{Object}
+use Rattle.oc_neutral.specs.{declared.group.Group.{Group}, declared.section.Section.{Section}, declared.symbol.Symbol.{Symbol}, Objects.{Object}}
 use Rattle.oc_neutral.specs.Invariants.{AreBytes, IsObject}
-use Rattle.oc_names.proofs.FieldBounds.{parts_same}
-use Rattle.oc_names.proofs.NamedObject.{named_is_object}
 use Rattle.oc_names.proofs.applying.named.Goals as goal
 
 pub new-requires : goal.new-requires

@@ -1,23 +1,14 @@
 use Rattle.std.proofs.Common.{[], Ok, arith, ◌≡◌, List, length, refl, sym, ◌∙◌, ap, subst}
-use Rattle.std.proofs.lemmas.Bool.Decides.{nat_tests}
+use Rattle.std.proofs.lemmas.{Bool.Decides.{nat_tests}, Result.{err_from_is_err_and}}
 use Rattle.oc_names.specs.declared.edit.Edit.{Edit}
 use Rattle.oc_names.specs.Rebinding.{rebound_object, AreStorable, after_fallbacks, after_relocs, after_words, lists_left, normalized, sections_left, unfit_fault}
-use Rattle.oc_names.proofs.Unedited.{no_items, rebound_same}
-use Rattle.std.proofs.lemmas.Result.{err_from_is_err_and}
-use Rattle.oc_base.specs.declared.format.Word.{Word}
-use Rattle.oc_base.specs.Formats.{word_for}
-use Rattle.oc_base.specs.Stops.{IsStop}
+use Rattle.oc_names.proofs.{Unedited.{no_items, rebound_same}, FieldBounds.{parts_same, storable}, LeftLists.{sections_long, written_back}}
+use Rattle.oc_names.proofs.{NormalObject.{normalized_is_object}, ReboundSymbols.{symbols_after}}
+use Rattle.oc_base.specs.{declared.format.Word.{Word}, Formats.{word_for}, Stops.{IsStop}}
 use Rattle.oc_chains.specs.Lists.{Lists}
-use Rattle.oc_neutral.specs.declared.section.Section.{Section}
-use Rattle.oc_neutral.specs.declared.symbol.Symbol.{Symbol}
-use Rattle.oc_neutral.specs.declared.reloc.Reloc.{Reloc}
-use Rattle.oc_neutral.specs.Objects.{Object}
+use Rattle.oc_neutral.specs.{declared.section.Section.{Section}, declared.symbol.Symbol.{Symbol}, declared.reloc.Reloc.{Reloc}, Objects.{Object}}
 use Rattle.oc_neutral.specs.Invariants.{IsObject}
 use Rattle.oc_drop.specs.Steps.{first_field, then_by}
-use Rattle.oc_names.proofs.FieldBounds.{parts_same, storable}
-use Rattle.oc_names.proofs.LeftLists.{sections_long, written_back}
-use Rattle.oc_names.proofs.NormalObject.{normalized_is_object}
-use Rattle.oc_names.proofs.ReboundSymbols.{symbols_after}
 use Rattle.oc_drop.proofs.StepLaws.{step_refused, then_step}
 use Rattle.oc_names.proofs.rebind_step.rebound.Goals as goal
 

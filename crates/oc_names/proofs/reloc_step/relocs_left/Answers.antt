@@ -1,15 +1,10 @@
 use Rattle.std.proofs.Common.{◌≡◌, ℕ, ◌+◌, ◌<◌, ◌≤◌, ◌∷◌, ◌++◌, [], None, List, length, take, get_or, sym, ◌∙◌, ap, subst, arith}
 use Rattle.std.specs.List.{AllByRecursion, filter_map, fold}
-use Rattle.std.proofs.lemmas.List.{length-set}
-use Rattle.std.proofs.lemmas.Option.{get_or_from_slice_get}
-use Rattle.std.proofs.lemmas.Result.{err_from_is_err_and}
+use Rattle.std.proofs.lemmas.{List.{length-set}, Option.{get_or_from_slice_get}, Result.{err_from_is_err_and}}
 use Rattle.oc_base.specs.Stops.{IsStop}
 use Rattle.oc_linking.specs.Fits.{bytes_of}
-use Rattle.oc_chains.specs.declared.field.Field.{Field}
-use Rattle.oc_chains.specs.Fields.{FollowFrom}
-use Rattle.oc_chains.specs.Lists.{Lists, held_in, list_of}
-use Rattle.oc_neutral.specs.declared.section.Section.{Section}
-use Rattle.oc_neutral.specs.declared.reloc.Reloc.{Reloc}
+use Rattle.oc_chains.specs.{declared.field.Field.{Field}, Fields.{FollowFrom}, Lists.{Lists, held_in, list_of}}
+use Rattle.oc_neutral.specs.{declared.section.Section.{Section}, declared.reloc.Reloc.{Reloc}}
 use Rattle.oc_neutral.proofs.Positions.{each_weaker, there_at}
 use Rattle.oc_drop.specs.Steps.{first_in}
 use Rattle.oc_names.specs.Rebinding.{IsInside, kept_field, unfit_fault, with_constant, lists_left}

@@ -2,9 +2,8 @@ use Rattle.std.proofs.Common.{[], ◌∙◌, ◌+◌, ◌<◌, ap, arith, length
 use Rattle.std.specs.Option.{option_map}
 use Rattle.oc_chains.specs.Lists.{Chained, list_of}
 use Rattle.oc_neutral.specs.declared.reloc.Reloc.{Reloc}
-use Rattle.oc_neutral.proofs.Numbers.{IsEmptying, next_goes, next_stays, next_there}
+use Rattle.oc_neutral.proofs.{Numbers.{IsEmptying, next_goes, next_stays, next_there}, relocs.drop_others.Goals.{then-not-stay-at, else-not-stay-at}}
 use Rattle.oc_neutral.proofs.relocs.drop_others.Goals as goal
-use Rattle.oc_neutral.proofs.relocs.drop_others.Goals.{then-not-stay-at, else-not-stay-at}
 
 pub drop_section-requires : goal.drop_section-requires
 drop_section-requires c =

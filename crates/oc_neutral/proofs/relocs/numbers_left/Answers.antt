@@ -3,8 +3,7 @@ use Rattle.std.specs.Option.{option_map}
 use Rattle.std.proofs.lemmas.List.{get_or_default}
 use Rattle.oc_linking.specs.Keeping.{kept_of}
 use Rattle.oc_neutral.specs.Numbered.{numbers_by}
-use Rattle.oc_neutral.proofs.KeptLists.{kept_more}
-use Rattle.oc_neutral.proofs.Numbers.{counted_numbers, number_is}
+use Rattle.oc_neutral.proofs.{KeptLists.{kept_more}, Numbers.{counted_numbers, number_is}}
 use Rattle.oc_neutral.proofs.relocs.numbers_left.Goals as goal
 
 pub loop-at-preserved : goal.loop-at-preserved

@@ -1,11 +1,8 @@
 use Rattle.std.proofs.Common.{◌≡◌, Bool, List, map, slice_get, sym, ◌∙◌, ap, subst}
 use Rattle.std.specs.List.{filter_map}
 use Rattle.oc_linking.specs.Keeping.{kept_of}
-use Rattle.oc_neutral.specs.Objects.{Object}
-use Rattle.oc_neutral.specs.Invariants.{IsObject}
-use Rattle.oc_neutral.specs.Without.{groups_left, left_of, regrouped}
-use Rattle.oc_neutral.proofs.SameParts.{parts_same}
-use Rattle.oc_neutral.proofs.LeftObject.{left_is_object}
+use Rattle.oc_neutral.specs.{Objects.{Object}, Invariants.{IsObject}, Without.{groups_left, left_of, regrouped}}
+use Rattle.oc_neutral.proofs.{SameParts.{parts_same}, LeftObject.{left_is_object}}
 use Rattle.oc_neutral.proofs.without.left_of.Goals as goal
 
 pub new-requires-3 : goal.new-requires-3

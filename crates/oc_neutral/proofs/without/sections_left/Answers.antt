@@ -1,7 +1,6 @@
 use Rattle.std.proofs.Common.{◌∙◌, List, length, subst, sym}
 use Rattle.std.specs.List.{AllByRecursion}
-use Rattle.oc_neutral.specs.declared.section.Section.{Section}
-use Rattle.oc_neutral.specs.Invariants.{IsMember, groups_of}
+use Rattle.oc_neutral.specs.{declared.section.Section.{Section}, Invariants.{IsMember, groups_of}}
 use Rattle.oc_neutral.proofs.LeftObject.{members_kept}
 use Rattle.oc_neutral.proofs.without.sections_left.Goals as goal
 

@@ -5,11 +5,8 @@ use Rattle.oc_base.specs.declared.stop.Stop.TheVariants as stop
 use Rattle.oc_linking.specs.FirstFault.{fault_of}
 use Rattle.oc_shelf.proofs.ReadingLaws.StageLemmas.{clean_more, stops_at}
 use Rattle.oc_omf_records.specs.NextEntry.{entry_of}
-use Rattle.oc_omf.specs.declared.constants.TheConstants.{THEADR}
-use Rattle.oc_omf.specs.Entries.{is_kind, places_in}
-use Rattle.oc_omf.specs.HeaderFaults.{header_stage}
-use Rattle.oc_omf.proofs.EntryLemmas.{any_with}
-use Rattle.oc_omf.proofs.PlaceLemmas.{few_entries, fault_here}
+use Rattle.oc_omf.specs.{declared.constants.TheConstants.{THEADR}, Entries.{is_kind, places_in}, HeaderFaults.{header_stage}}
+use Rattle.oc_omf.proofs.{EntryLemmas.{any_with}, PlaceLemmas.{few_entries, fault_here}}
 use Rattle.oc_omf.proofs.header_stage.check_entries.Goals as goal
 
 pub overflow_cast-result : goal.overflow_cast-result

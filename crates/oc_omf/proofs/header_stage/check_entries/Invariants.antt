@@ -1,8 +1,6 @@
 use Rattle.std.proofs.Common.{◌≡◌, None, take}
-use Rattle.oc_linking.specs.Numbers.{first_upto}
-use Rattle.oc_linking.specs.FirstFault.{fault_of}
-use Rattle.oc_omf.specs.Entries.{places_in}
-use Rattle.oc_omf.specs.HeaderFaults.{header_stage, is_begun}
+use Rattle.oc_linking.specs.{Numbers.{first_upto}, FirstFault.{fault_of}}
+use Rattle.oc_omf.specs.{Entries.{places_in}, HeaderFaults.{header_stage, is_begun}}
 use Rattle.oc_omf.proofs.header_stage.check_entries.Given as goal
 
 -- no entry so far has a fault

@@ -1,8 +1,7 @@
 use Rattle.std.proofs.Common.{Option, Err, sym, ◌∙◌, ap}
 use Rattle.std.specs.Option.{option_map}
 use Rattle.oc_base.specs.declared.code.Code.{Code}
-use Rattle.oc_omf_records.specs.declared.records.RecordFault.{RecordFault}
-use Rattle.oc_omf_records.specs.NextEntry.{entry_at}
+use Rattle.oc_omf_records.specs.{declared.records.RecordFault.{RecordFault}, NextEntry.{entry_at}}
 use Rattle.oc_omf.specs.HeaderFaults.{entry_fault}
 use Rattle.oc_omf.proofs.HeaderLemmas.{entry_judged, verdict}
 use Rattle.oc_omf.proofs.header_stage.judge_entry.Goals as goal

@@ -1,13 +1,10 @@
 -- One after another.
 use Rattle.std.proofs.Common.{◌≡◌, ◌<◌, ◌≤◌, false, List, ◌++◌, length, None, Some, sym, ◌∙◌, ap, subst, arith}
 use Rattle.oc_base.specs.Stops.{IsStop}
-use Rattle.oc_omf_judge.specs.declared.earlier.EarlierSymbols.{EarlierSymbols}
-use Rattle.oc_omf.specs.Structures.{External, communal_read}
-use Rattle.oc_omf.specs.Entries.{all_read, in_file}
-use Rattle.oc_omf_judge.specs.EarlierSymbols.{AreEarlierSymbols, external_behind, external_with, walked}
+use Rattle.oc_omf_judge.specs.{declared.earlier.EarlierSymbols.{EarlierSymbols}, EarlierSymbols.{AreEarlierSymbols, external_behind, external_with, walked}}
+use Rattle.oc_omf.specs.{Structures.{External, communal_read}, Entries.{all_read, in_file}}
 use Rattle.oc_omf.proofs.EachLemmas.{each_behind}
-use Rattle.oc_omf_judge.proofs.GoesLemmas.{communal_goes}
-use Rattle.oc_omf_judge.proofs.WalkLemmas.{walk_begin, walk_cut, walk_end, walk_more, walk_stop}
+use Rattle.oc_omf_judge.proofs.{GoesLemmas.{communal_goes}, WalkLemmas.{walk_begin, walk_cut, walk_end, walk_more, walk_stop}}
 use Rattle.oc_omf_judge.proofs.externals.take_communals.Goals as goal
 
 pub loop-at-init : goal.loop-at-init

@@ -1,10 +1,7 @@
 -- The communals so far have no fault, and are taken up.
 use Rattle.std.proofs.Common.{◌-◌, List, true, length}
-use Rattle.oc_omf_judge.specs.Held.{Held}
-use Rattle.oc_omf.specs.Tables.{Tables}
-use Rattle.oc_omf.specs.Structures.{External, communal_read}
-use Rattle.oc_omf_judge.specs.declared.earlier.EarlierSymbols.{EarlierSymbols}
-use Rattle.oc_omf_judge.specs.EarlierSymbols.{AreNamed, AreEarlierSymbols, external_behind}
+use Rattle.oc_omf_judge.specs.{Held.{Held}, declared.earlier.EarlierSymbols.{EarlierSymbols}, EarlierSymbols.{AreNamed, AreEarlierSymbols, external_behind}}
+use Rattle.oc_omf.specs.{Tables.{Tables}, Structures.{External, communal_read}}
 use Rattle.oc_omf_judge.proofs.WalkLemmas.{Walk}
 use Rattle.oc_omf_judge.proofs.externals.take_communals.Given as goal
 

@@ -1,17 +1,11 @@
 -- One condition after another, behind what is kept.
 use Rattle.std.proofs.Common.{◌≡◌, ℕ, true, false, cond, nat_eq, Option, Some, None, sym, ◌∙◌, ap, subst, arith}
-use Rattle.std.specs.List.{list_any}
-use Rattle.std.specs.Option.{option_map}
+use Rattle.std.specs.{List.{list_any}, Option.{option_map}}
 use Rattle.std.proofs.lemmas.Bool.Decides.{nat_tests}
-use Rattle.oc_base.specs.declared.code.Code.TheVariants.{Overlap}
-use Rattle.oc_base.specs.Stops.{IsStop}
+use Rattle.oc_base.specs.{declared.code.Code.TheVariants.{Overlap}, Stops.{IsStop}}
 use Rattle.oc_linking.specs.Numbers.{or_else}
-use Rattle.oc_omf.specs.declared.constants.TheConstants.{OFFSET_32}
-use Rattle.oc_omf.specs.declared.structures.Method.{Method}
-use Rattle.oc_omf.specs.Fixups.{fixed_in, fixed_of, meet}
-use Rattle.oc_omf_judge.specs.Fixups.{AreFieldsStopped, AreFieldsTaken, names_fault}
-use Rattle.oc_omf_judge.specs.Lying.{Lying, copies_in}
-use Rattle.oc_omf_judge.specs.Reached.{last_in, relocation_fault}
+use Rattle.oc_omf.specs.{declared.constants.TheConstants.{OFFSET_32}, declared.structures.Method.{Method}, Fixups.{fixed_in, fixed_of, meet}}
+use Rattle.oc_omf_judge.specs.{Fixups.{AreFieldsStopped, AreFieldsTaken, names_fault}, Lying.{Lying, copies_in}, Reached.{last_in, relocation_fault}}
 use Rattle.oc_omf_judge.specs.Threads.{method_by}
 use Rattle.oc_omf_judge.proofs.ReachedLemmas.{fields_free, fixup_taken, kind_stops, names_judged, offset_stops, overlap_stops, reached_same, stopped_by}
 use Rattle.oc_omf_judge.proofs.fixups.judge_fixup.Goals as goal

@@ -1,13 +1,10 @@
 -- A group without a fault is taken up.
 use Rattle.std.proofs.Common.{ℕ, ◌++◌, ◌∷◌, [], length, Some, refl, sym, ◌∙◌, ap, append-nil}
 use Rattle.oc_base.specs.declared.code.Code.TheVariants.{BadTable}
-use Rattle.oc_omf.specs.Structures.{group_read}
-use Rattle.oc_omf.specs.SectionFaults.{group_conditions, own_fault}
+use Rattle.oc_omf.specs.{Structures.{group_read}, SectionFaults.{group_conditions, own_fault}, Topics.{said_on}}
 use Rattle.oc_omf_judge.specs.Defined.{and_entry}
-use Rattle.oc_omf.specs.Topics.{said_on}
 use Rattle.oc_omf.specs.declared.topics.Topic.TheVariants as topic
-use Rattle.oc_omf_judge.proofs.DefinedLemmas.{group_taken, same_defined}
-use Rattle.oc_omf_judge.proofs.GroupLemmas.{group_by, group_cut, group_named, group_with}
+use Rattle.oc_omf_judge.proofs.{DefinedLemmas.{group_taken, same_defined}, GroupLemmas.{group_by, group_cut, group_named, group_with}}
 use Rattle.oc_omf_judge.proofs.StageLaws.{group_judged, whole_read}
 use Rattle.oc_omf_judge.proofs.groups.take_group.Goals as goal
 

@@ -2,11 +2,8 @@
 use Rattle.std.proofs.Common.{ℕ, List, sym, ◌∙◌, ap, subst}
 use Rattle.oc_base.specs.Stops.{IsStop}
 use Rattle.oc_linking.specs.FirstFault.{first_fault}
-use Rattle.oc_omf.specs.Entries.{entries_in}
-use Rattle.oc_omf.specs.Tables.{tables_of}
-use Rattle.oc_omf_judge.specs.Defined.{IsDefined}
-use Rattle.oc_omf_judge.specs.Judged.{IsFront}
-use Rattle.oc_omf.specs.RelocationFaults.{relocation_stages}
+use Rattle.oc_omf.specs.{Entries.{entries_in}, Tables.{tables_of}, RelocationFaults.{relocation_stages}}
+use Rattle.oc_omf_judge.specs.{Defined.{IsDefined}, Judged.{IsFront}}
 use Rattle.oc_omf_judge.proofs.JudgingLemmas.{fault_behind, front_stops}
 use Rattle.oc_omf_judge.proofs.judging.judged.Goals as goal
 

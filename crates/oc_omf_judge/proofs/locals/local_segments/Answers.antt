@@ -1,10 +1,7 @@
 -- One entry after another.
 use Rattle.std.proofs.Common.{rules, ◌≤◌, length, sym, subst, arith}
-use Rattle.oc_omf.specs.Entries.{Entry, entries_in}
-use Rattle.oc_omf.specs.Tables.{Tables, tables_of}
-use Rattle.oc_omf.specs.Topics.{said_on}
-use Rattle.oc_omf_judge.specs.Defined.{before_in}
-use Rattle.oc_omf_judge.specs.Locals.{AreLocals}
+use Rattle.oc_omf.specs.{Entries.{Entry, entries_in}, Tables.{Tables, tables_of}, Topics.{said_on}}
+use Rattle.oc_omf_judge.specs.{Defined.{before_in}, Locals.{AreLocals}}
 use Rattle.oc_omf_judge.proofs.StageLaws.{all_behind, defined_behind, entry_count, entry_here}
 use Rattle.oc_omf_judge.proofs.locals.local_segments.Goals as goal
 

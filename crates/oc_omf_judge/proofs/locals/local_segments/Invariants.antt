@@ -1,6 +1,5 @@
 -- The definitions of the entries so far are taken up.
-use Rattle.oc_omf_judge.specs.Defined.{before_in}
-use Rattle.oc_omf_judge.specs.Locals.{AreLocals}
+use Rattle.oc_omf_judge.specs.{Defined.{before_in}, Locals.{AreLocals}}
 use Rattle.oc_omf_judge.proofs.locals.local_segments.Given as goal
 
 abbrev pub invariant-loop-i : goal.invariant-loop-i

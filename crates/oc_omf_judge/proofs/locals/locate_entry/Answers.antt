@@ -1,9 +1,7 @@
 -- The definitions behind a base.
 use Rattle.std.proofs.Common.{sym, ◌∙◌, subst}
 use Rattle.std.proofs.lemmas.Result.{on_ok_weaker}
-use Rattle.oc_omf.specs.declared.topics.Topic.{Topic}
-use Rattle.oc_omf.specs.Entries.{all_read}
-use Rattle.oc_omf.specs.Topics.{said_on}
+use Rattle.oc_omf.specs.{declared.topics.Topic.{Topic}, Entries.{all_read}, Topics.{said_on}}
 use Rattle.oc_omf_judge.specs.Locals.{AreLocated}
 use Rattle.oc_omf_judge.proofs.SeenEntry.{located_entry}
 use Rattle.oc_omf_judge.proofs.locals.locate_entry.Goals as goal

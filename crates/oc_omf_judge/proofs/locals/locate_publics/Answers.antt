@@ -1,14 +1,9 @@
 -- One definition after another.
 use Rattle.std.proofs.Common.{ℕ, ◌<◌, ◌≤◌, Bool, List, [], ◌++◌, length, refl, sym, subst, arith}
-use Rattle.oc_omf.specs.Structures.{Public, public_read}
-use Rattle.oc_omf.specs.Entries.{all_read, in_file}
-use Rattle.oc_omf_judge.specs.Held.{Held}
-use Rattle.oc_omf_judge.specs.EarlierSymbols.{public_with}
-use Rattle.oc_omf_judge.specs.Locals.{AreLocals}
+use Rattle.oc_omf.specs.{Structures.{Public, public_read}, Entries.{all_read, in_file}}
+use Rattle.oc_omf_judge.specs.{Held.{Held}, EarlierSymbols.{public_with}, Locals.{AreLocals}}
 use Rattle.oc_omf.proofs.EachLemmas.{each_behind, each_from}
-use Rattle.oc_omf_judge.proofs.GoesLemmas.{public_goes}
-use Rattle.oc_omf_judge.proofs.StageLaws.{read_in_file}
-use Rattle.oc_omf_judge.proofs.WalkLemmas.{walk_begin, walk_end, walk_more, walk_over}
+use Rattle.oc_omf_judge.proofs.{GoesLemmas.{public_goes}, StageLaws.{read_in_file}, WalkLemmas.{walk_begin, walk_end, walk_more, walk_over}}
 use Rattle.oc_omf_judge.proofs.locals.locate_publics.Goals as goal
 
 pub loop-at-init : goal.loop-at-init

@@ -1,8 +1,7 @@
 -- The segments so far are taken up.
 use Rattle.std.proofs.Common.{◌-◌, List, [], length}
 use Rattle.oc_omf.specs.Structures.{Public, public_read}
-use Rattle.oc_omf_judge.specs.Held.{Held}
-use Rattle.oc_omf_judge.specs.Locals.{AreLocals}
+use Rattle.oc_omf_judge.specs.{Held.{Held}, Locals.{AreLocals}}
 use Rattle.oc_omf_judge.proofs.WalkLemmas.{Walk}
 use Rattle.oc_omf_judge.proofs.locals.locate_publics.Given as goal
 

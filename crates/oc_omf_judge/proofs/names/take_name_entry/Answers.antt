@@ -1,13 +1,10 @@
 -- Names are judged and taken up by themselves.
 use Rattle.std.proofs.Common.{◌++◌, refl, sym, ◌∙◌, ap, subst, append-nil}
 use Rattle.oc_base.specs.Stops.{IsStop}
-use Rattle.oc_omf.specs.Cursor.{each_read, name_read}
-use Rattle.oc_omf.specs.Entries.{all_read}
+use Rattle.oc_omf.specs.{Cursor.{each_read, name_read}, Entries.{all_read}, Topics.{said_on}}
 use Rattle.oc_omf_judge.specs.Defined.{and_entry}
-use Rattle.oc_omf.specs.Topics.{said_on}
 use Rattle.oc_omf.specs.declared.topics.Topic.TheVariants as topic
-use Rattle.oc_omf_judge.proofs.DefinedLemmas.{names_taken, same_defined}
-use Rattle.oc_omf_judge.proofs.StageLaws.{names_judged, read_in_file}
+use Rattle.oc_omf_judge.proofs.{DefinedLemmas.{names_taken, same_defined}, StageLaws.{names_judged, read_in_file}}
 use Rattle.oc_omf_judge.proofs.names.take_name_entry.Goals as goal
 
 pub returns-in-Ok-clause-taken : goal.returns-in-Ok-clause-taken

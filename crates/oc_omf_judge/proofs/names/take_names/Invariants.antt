@@ -1,9 +1,6 @@
 use Rattle.std.proofs.Common.{◌≡◌, ◌-◌, ◌++◌, length}
 use Rattle.oc_linking.specs.FirstFault.{first_broken}
-use Rattle.oc_omf.specs.Cursor.{name_read}
-use Rattle.oc_omf.specs.Entries.{all_read}
-use Rattle.oc_omf.specs.Known.{names_of}
-use Rattle.oc_omf.specs.SectionFaults.{name_conditions}
+use Rattle.oc_omf.specs.{Cursor.{name_read}, Entries.{all_read}, Known.{names_of}, SectionFaults.{name_conditions}}
 use Rattle.oc_omf.proofs.EachLemmas.{each_from}
 use Rattle.oc_omf_judge.proofs.names.take_names.Given as goal
 

@@ -1,7 +1,6 @@
 -- Data nested too deep, of a segment that is there or not.
 use Rattle.std.proofs.Common.{Some, None, sym, ◌∙◌, ap}
-use Rattle.oc_omf_judge.proofs.DefinedLemmas.{looked_up}
-use Rattle.oc_omf_judge.proofs.PieceLemmas.{deep_lost, deep_piece}
+use Rattle.oc_omf_judge.proofs.{DefinedLemmas.{looked_up}, PieceLemmas.{deep_lost, deep_piece}}
 use Rattle.oc_omf_judge.proofs.pieces.deep_fault.Goals as goal
 
 pub returns-in-Some : goal.returns-in-Some

@@ -5,10 +5,8 @@ use Rattle.std.proofs.lemmas.Result.{IfErr-weaker, on_ok_weaker}
 use Rattle.oc_base.specs.declared.stop.Stop.TheVariants as stop
 use Rattle.oc_omf_records.specs.declared.faults.BlockFault.TheVariants as block
 use Rattle.oc_omf_records.specs.Blocks.{Blocks, size_of}
-use Rattle.oc_omf.specs.Known.{row_of}
-use Rattle.oc_omf.specs.Structures.{blocks_by}
+use Rattle.oc_omf.specs.{Known.{row_of}, Structures.{blocks_by}, Topics.{said_on}}
 use Rattle.oc_omf.specs.declared.topics.Topic.TheVariants as topic
-use Rattle.oc_omf.specs.Topics.{said_on}
 use Rattle.oc_omf_judge.specs.Defined.{IsPieceStopped, IsStoppedAt, piece_with}
 use Rattle.oc_omf_judge.proofs.DataLemmas.{data_bad, data_cut, data_stopped, data_taken, head_inside}
 use Rattle.oc_omf_judge.proofs.pieces.take_data.Goals as goal

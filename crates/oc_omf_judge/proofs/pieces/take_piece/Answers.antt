@@ -3,8 +3,7 @@ use Rattle.std.proofs.Common.{rules, ◌≡◌, ℕ, ◌+◌, ◌-◌, ◌<◌, 
 use Rattle.std.proofs.Math.ListN.{set}
 use Rattle.std.proofs.lemmas.List.{length-set, with_items_is}
 use Rattle.oc_base.specs.declared.code.Code.TheVariants.{DataOverlap}
-use Rattle.oc_omf.specs.Sections.{segment_size}
-use Rattle.oc_omf.specs.SectionFaults.{own_fault}
+use Rattle.oc_omf.specs.{Sections.{segment_size}, SectionFaults.{own_fault}}
 use Rattle.oc_omf_judge.proofs.DefinedLemmas.{looked_up}
 use Rattle.oc_omf_judge.proofs.PieceLemmas.{empty_taken, full_taken, indexed_at, inside_clean, lost_piece, meets_spans, outside_stops, piece_inside}
 use Rattle.oc_omf_judge.proofs.pieces.take_piece.Goals as goal

@@ -2,16 +2,11 @@
 use Rattle.std.proofs.Common.{◌≡◌, ◌++◌, Ok, Some, sym, ◌∙◌, ap, subst, append-nil}
 use Rattle.oc_base.specs.Stops.{IsStop}
 use Rattle.oc_linking.specs.Numbers.{or_else}
-use Rattle.oc_omf.specs.Cursor.{Reading}
-use Rattle.oc_omf.specs.declared.structures.PublicBase.{PublicBase}
-use Rattle.oc_omf.specs.declared.topics.Topic.TheVariants as topic
-use Rattle.oc_omf.specs.Structures.{base_read}
-use Rattle.oc_omf.specs.Entries.{all_read}
+use Rattle.oc_omf.specs.{Cursor.{Reading}, declared.structures.PublicBase.{PublicBase}, Structures.{base_read}, Entries.{all_read}}
 use Rattle.oc_omf.specs.Topics.{publics_on, said_on}
-use Rattle.oc_omf_judge.specs.Defined.{and_entry}
-use Rattle.oc_omf_judge.specs.EarlierSymbols.{public_behind, walked}
-use Rattle.oc_omf_judge.proofs.SeenEntry.{base_by, same_seen}
-use Rattle.oc_omf_judge.proofs.SeenLemmas.{base_verdict, publics_judged}
+use Rattle.oc_omf.specs.declared.topics.Topic.TheVariants as topic
+use Rattle.oc_omf_judge.specs.{Defined.{and_entry}, EarlierSymbols.{public_behind, walked}}
+use Rattle.oc_omf_judge.proofs.{SeenEntry.{base_by, same_seen}, SeenLemmas.{base_verdict, publics_judged}}
 use Rattle.oc_omf_judge.proofs.publics.take_public_entry.Goals as goal
 
 pub returns-in-Err-clause-stop : goal.returns-in-Err-clause-stop

@@ -1,13 +1,10 @@
 -- One definition after another.
 use Rattle.std.proofs.Common.{◌≡◌, ◌<◌, ◌≤◌, List, ◌++◌, length, None, Some, sym, ◌∙◌, ap, subst, arith}
 use Rattle.oc_base.specs.Stops.{IsStop}
-use Rattle.oc_omf_judge.specs.declared.earlier.EarlierSymbols.{EarlierSymbols}
-use Rattle.oc_omf.specs.Structures.{Public, public_read}
-use Rattle.oc_omf.specs.Entries.{all_read, in_file}
-use Rattle.oc_omf_judge.specs.EarlierSymbols.{AreEarlierSymbols, public_behind, public_with, walked}
+use Rattle.oc_omf_judge.specs.{declared.earlier.EarlierSymbols.{EarlierSymbols}, EarlierSymbols.{AreEarlierSymbols, public_behind, public_with, walked}}
+use Rattle.oc_omf.specs.{Structures.{Public, public_read}, Entries.{all_read, in_file}}
 use Rattle.oc_omf.proofs.EachLemmas.{each_behind}
-use Rattle.oc_omf_judge.proofs.GoesLemmas.{public_goes}
-use Rattle.oc_omf_judge.proofs.WalkLemmas.{walk_begin, walk_cut, walk_end, walk_more, walk_stop}
+use Rattle.oc_omf_judge.proofs.{GoesLemmas.{public_goes}, WalkLemmas.{walk_begin, walk_cut, walk_end, walk_more, walk_stop}}
 use Rattle.oc_omf_judge.proofs.publics.take_publics.Goals as goal
 
 pub loop-at-init : goal.loop-at-init

@@ -1,7 +1,6 @@
 -- The definitions so far have no fault, and are taken up.
 use Rattle.std.proofs.Common.{◌-◌, length}
-use Rattle.oc_omf.specs.Tables.{Tables}
-use Rattle.oc_omf.specs.Structures.{public_read}
+use Rattle.oc_omf.specs.{Tables.{Tables}, Structures.{public_read}}
 use Rattle.oc_omf_judge.specs.EarlierSymbols.{AreEarlierSymbols, public_behind}
 use Rattle.oc_omf_judge.proofs.WalkLemmas.{Walk}
 use Rattle.oc_omf_judge.proofs.publics.take_publics.Given as goal

@@ -4,15 +4,9 @@ use Rattle.std.proofs.lemmas.Option.{slice_get_within}
 use Rattle.oc_base.specs.Stops.{IsStop}
 use Rattle.oc_linking.specs.Numbers.{first_upto}
 use Rattle.oc_shelf.proofs.ReadingLaws.StageLemmas.{clean_more, stops_at}
-use Rattle.oc_omf.specs.Entries.{Entry}
-use Rattle.oc_omf.specs.Fixups.{PlacedSubrecord, subrecords_upto}
-use Rattle.oc_omf.specs.Tables.{Tables}
-use Rattle.oc_omf.specs.Topics.{said_on}
-use Rattle.oc_omf_judge.specs.Defined.{before_in}
-use Rattle.oc_omf_judge.proofs.StageLaws.{defined_behind, entry_count, entry_here}
-use Rattle.oc_omf_judge.specs.Reached.{IsReached, placed_in}
-use Rattle.oc_omf_judge.specs.Whole.{entries}
-use Rattle.oc_omf_judge.proofs.EntryLemmas.{entry_small}
+use Rattle.oc_omf.specs.{Entries.{Entry}, Fixups.{PlacedSubrecord, subrecords_upto}, Tables.{Tables}, Topics.{said_on}}
+use Rattle.oc_omf_judge.specs.{Defined.{before_in}, Reached.{IsReached, placed_in}, Whole.{entries}}
+use Rattle.oc_omf_judge.proofs.{StageLaws.{defined_behind, entry_count, entry_here}, EntryLemmas.{entry_small}}
 use Rattle.oc_omf_judge.proofs.PartLemmas.{placed_more, relocations_at, relocations_first, relocations_here}
 use Rattle.oc_omf_judge.proofs.relocs.check_relocations.Goals as goal
 

@@ -2,9 +2,7 @@
 use Rattle.std.proofs.Common.{◌≡◌, None}
 use Rattle.oc_linking.specs.Numbers.{first_upto}
 use Rattle.oc_omf.specs.Fixups.{subrecords_upto}
-use Rattle.oc_omf_judge.specs.Defined.{before_in}
-use Rattle.oc_omf_judge.specs.Reached.{IsReached}
-use Rattle.oc_omf_judge.specs.Whole.{entries}
+use Rattle.oc_omf_judge.specs.{Defined.{before_in}, Reached.{IsReached}, Whole.{entries}}
 use Rattle.oc_omf_judge.proofs.PartLemmas.{relocations_at}
 use Rattle.oc_omf_judge.proofs.relocs.check_relocations.Given as goal
 

@@ -1,8 +1,7 @@
 -- What an entry is about decides what is judged.
 use Rattle.std.proofs.Common.{false, sym, subst}
 use Rattle.std.proofs.lemmas.Result.{on_ok_weaker}
-use Rattle.oc_omf.specs.declared.topics.Topic.{Topic}
-use Rattle.oc_omf.specs.Topics.{said_on}
+use Rattle.oc_omf.specs.{declared.topics.Topic.{Topic}, Topics.{said_on}}
 use Rattle.oc_omf_judge.specs.Reached.{IsEntryTaken}
 use Rattle.oc_omf_judge.proofs.relocs.take_entry.Goals as goal
 

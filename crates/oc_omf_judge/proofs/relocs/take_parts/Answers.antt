@@ -1,17 +1,11 @@
 -- One thread or fixup after another.
 use Rattle.std.proofs.Common.{◌≡◌, ℕ, ◌+◌, ◌<◌, ◌≤◌, ◌∷◌, [], ◌++◌, length, Ok, None, Some, sym, ◌∙◌, ap, subst, arith}
-use Rattle.oc_base.specs.declared.code.Code.TheVariants.{BadTable}
-use Rattle.oc_base.specs.Stops.{IsStop}
+use Rattle.oc_base.specs.{declared.code.Code.TheVariants.{BadTable}, Stops.{IsStop}}
 use Rattle.oc_linking.specs.FirstFault.{first_broken}
-use Rattle.oc_omf.specs.declared.constants.TheConstants.{ENTRY_HEAD}
-use Rattle.oc_omf.specs.Entries.{in_file}
-use Rattle.oc_omf.specs.Structures.{subrecord_read}
-use Rattle.oc_omf.specs.RelocationFaults.{relocation_conditions}
+use Rattle.oc_omf.specs.{declared.constants.TheConstants.{ENTRY_HEAD}, Entries.{in_file}, Structures.{subrecord_read}, RelocationFaults.{relocation_conditions}}
 use Rattle.oc_omf.proofs.EachLemmas.{each_begin}
-use Rattle.oc_omf_judge.specs.Reached.{IsReached, judged_behind, placed_at, placed_in, relocation_fault}
-use Rattle.oc_omf_judge.specs.Whole.{meaning}
-use Rattle.oc_omf_judge.proofs.PartLemmas.{walk_begin, walk_cut, walk_end, walk_more, walk_stop}
-use Rattle.oc_omf_judge.proofs.SubrecordLemmas.{subrecord_goes, subrecord_numbered}
+use Rattle.oc_omf_judge.specs.{Reached.{IsReached, judged_behind, placed_at, placed_in, relocation_fault}, Whole.{meaning}}
+use Rattle.oc_omf_judge.proofs.{PartLemmas.{walk_begin, walk_cut, walk_end, walk_more, walk_stop}, SubrecordLemmas.{subrecord_goes, subrecord_numbered}}
 use Rattle.oc_omf_judge.proofs.relocs.take_parts.Goals as goal
 
 -- a number and a place

@@ -1,7 +1,6 @@
 -- The threads and fixups so far have no fault, and are taken up.
 use Rattle.std.proofs.Common.{◌-◌, List, length}
-use Rattle.oc_omf.specs.Tables.{Tables}
-use Rattle.oc_omf.specs.Fixups.{PlacedSubrecord}
+use Rattle.oc_omf.specs.{Tables.{Tables}, Fixups.{PlacedSubrecord}}
 use Rattle.oc_omf_judge.specs.Reached.{IsReached}
 use Rattle.oc_omf_judge.proofs.PartLemmas.{Walk}
 use Rattle.oc_omf_judge.proofs.relocs.take_parts.Given as goal

@@ -1,7 +1,6 @@
 -- What a segment says, and then its size.
 use Rattle.std.proofs.Common.{ℕ, sym, ◌∙◌, ap}
-use Rattle.oc_linking.specs.Numbers.{or_else}
-use Rattle.oc_linking.specs.FirstFault.{first_broken}
+use Rattle.oc_linking.specs.{Numbers.{or_else}, FirstFault.{first_broken}}
 use Rattle.oc_shelf.proofs.ReadingLaws.StageLemmas.{first_broken-append}
 use Rattle.oc_omf.specs.SectionFaults.{form_conditions, size_conditions}
 use Rattle.oc_omf_judge.proofs.section_stage.segment_fault.Goals as goal

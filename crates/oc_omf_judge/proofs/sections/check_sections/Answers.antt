@@ -2,15 +2,11 @@
 use Rattle.std.proofs.Common.{◌≡◌, ◌≤◌, length, arith, sym, ◌∙◌, ap, subst}
 use Rattle.std.proofs.lemmas.Option.{slice_get_within}
 use Rattle.oc_base.specs.Stops.{IsStop}
-use Rattle.oc_linking.specs.Numbers.{first_upto}
-use Rattle.oc_linking.specs.FirstFault.{fault_of}
+use Rattle.oc_linking.specs.{Numbers.{first_upto}, FirstFault.{fault_of}}
 use Rattle.oc_shelf.proofs.ReadingLaws.StageLemmas.{clean_more, stops_at}
-use Rattle.oc_omf.specs.Entries.{Entry, entries_in}
-use Rattle.oc_omf.specs.SectionFaults.{section_stage}
-use Rattle.oc_omf.specs.Topics.{said_on}
+use Rattle.oc_omf.specs.{Entries.{Entry, entries_in}, SectionFaults.{section_stage}, Topics.{said_on}}
 use Rattle.oc_omf_judge.specs.Defined.{IsDefined, before_in}
-use Rattle.oc_omf_judge.proofs.StageLaws.{all_behind, defined_behind, entry_count, entry_here, section_here}
-use Rattle.oc_omf_judge.proofs.TopicLemmas.{said_place}
+use Rattle.oc_omf_judge.proofs.{StageLaws.{all_behind, defined_behind, entry_count, entry_here, section_here}, TopicLemmas.{said_place}}
 use Rattle.oc_omf_judge.proofs.sections.check_sections.Goals as goal
 
 pub take_entry-requires-clause-long : goal.take_entry-requires-clause-long

@@ -1,9 +1,8 @@
 -- Symbols, threads and fixups are judged later.
 use Rattle.std.proofs.Common.{ℕ, Bool, List, refl, sym, subst}
 use Rattle.std.proofs.lemmas.Result.{IfErr-weaker, on_ok_weaker}
-use Rattle.oc_omf.specs.declared.topics.Topic.{Topic}
+use Rattle.oc_omf.specs.{declared.topics.Topic.{Topic}, Topics.{said_on}}
 use Rattle.oc_omf.specs.declared.topics.Topic.TheVariants as topic
-use Rattle.oc_omf.specs.Topics.{said_on}
 use Rattle.oc_omf_judge.specs.Defined.{IsStoppedOn, IsTakenOn}
 use Rattle.oc_omf_judge.proofs.LaterLemmas.{nothing_taken}
 use Rattle.oc_omf_judge.proofs.sections.take_entry.Goals as goal

@@ -3,8 +3,7 @@ use Rattle.std.proofs.Common.{ℕ, sym, ◌∙◌, append-nil}
 use Rattle.oc_omf_judge.specs.Defined.{and_entry}
 use Rattle.oc_omf.specs.Topics.{said_on}
 use Rattle.oc_omf.specs.declared.topics.Topic.TheVariants as topic
-use Rattle.oc_omf_judge.proofs.DefinedLemmas.{same_defined}
-use Rattle.oc_omf_judge.proofs.StageLaws.{others_judged}
+use Rattle.oc_omf_judge.proofs.{DefinedLemmas.{same_defined}, StageLaws.{others_judged}}
 use Rattle.oc_omf_judge.proofs.sections.take_others.Goals as goal
 
 pub returns-in-Some-clause-stop : goal.returns-in-Some-clause-stop

@@ -1,12 +1,9 @@
 -- A segment without a fault is taken up.
 use Rattle.std.proofs.Common.{ℕ, ◌+◌, ◌++◌, [], ◌∷◌, refl, ◌∙◌, ap, append-nil}
-use Rattle.oc_omf.specs.Structures.{segment_read}
+use Rattle.oc_omf.specs.{Structures.{segment_read}, Topics.{said_on}}
 use Rattle.oc_omf_judge.specs.Defined.{and_entry}
-use Rattle.oc_omf.specs.Topics.{said_on}
 use Rattle.oc_omf.specs.declared.topics.Topic.TheVariants as topic
-use Rattle.oc_omf_judge.proofs.DefinedLemmas.{same_defined, segment_taken}
-use Rattle.oc_omf_judge.proofs.SegmentLemmas.{judged_by, small_segment}
-use Rattle.oc_omf_judge.proofs.StageLaws.{segment_judged, whole_read}
+use Rattle.oc_omf_judge.proofs.{DefinedLemmas.{same_defined, segment_taken}, SegmentLemmas.{judged_by, small_segment}, StageLaws.{segment_judged, whole_read}}
 use Rattle.oc_omf_judge.proofs.segments.take_segment.Goals as goal
 
 pub returns-clause-taken : goal.returns-clause-taken

@@ -4,13 +4,9 @@ use Rattle.std.proofs.lemmas.Option.{slice_get_within}
 use Rattle.oc_base.specs.Stops.{IsStop}
 use Rattle.oc_linking.specs.Numbers.{first_upto}
 use Rattle.oc_shelf.proofs.ReadingLaws.StageLemmas.{clean_more, stops_at}
-use Rattle.oc_omf.specs.Entries.{Entry, entries_in}
-use Rattle.oc_omf.specs.Tables.{tables_of}
-use Rattle.oc_omf.specs.Topics.{said_on}
-use Rattle.oc_omf_judge.specs.Defined.{before_in}
-use Rattle.oc_omf_judge.specs.EarlierSymbols.{AreEarlierSymbols}
-use Rattle.oc_omf_judge.proofs.LocalLemmas.{named_locals}
-use Rattle.oc_omf_judge.proofs.StageLaws.{all_behind, defined_behind, entry_count, entry_here}
+use Rattle.oc_omf.specs.{Entries.{Entry, entries_in}, Tables.{tables_of}, Topics.{said_on}}
+use Rattle.oc_omf_judge.specs.{Defined.{before_in}, EarlierSymbols.{AreEarlierSymbols}}
+use Rattle.oc_omf_judge.proofs.{LocalLemmas.{named_locals}, StageLaws.{all_behind, defined_behind, entry_count, entry_here}}
 use Rattle.oc_omf_judge.proofs.SymbolStages.{symbols_at, symbols_first, symbols_here}
 use Rattle.oc_omf_judge.proofs.symbol_loop.check_symbols.Goals as goal
 

@@ -1,8 +1,7 @@
 -- No entry so far has a fault, and what is kept is what they have.
 use Rattle.std.proofs.Common.{◌≡◌, None}
 use Rattle.oc_linking.specs.Numbers.{first_upto}
-use Rattle.oc_omf_judge.specs.Defined.{before_in}
-use Rattle.oc_omf_judge.specs.EarlierSymbols.{AreEarlierSymbols}
+use Rattle.oc_omf_judge.specs.{Defined.{before_in}, EarlierSymbols.{AreEarlierSymbols}}
 use Rattle.oc_omf_judge.proofs.SymbolStages.{symbols_at}
 use Rattle.oc_omf_judge.proofs.symbol_loop.check_symbols.Given as goal
 

@@ -1,14 +1,9 @@
 -- What an entry is about decides what is judged.
 use Rattle.std.proofs.Common.{Bool, refl, sym, subst}
 use Rattle.std.proofs.lemmas.Result.{IfErr-weaker, on_ok_weaker}
-use Rattle.oc_omf.specs.declared.topics.Topic.{Topic}
+use Rattle.oc_omf.specs.{declared.topics.Topic.{Topic}, Cursor.{each_read}, Entries.{in_file}, Structures.{communal_read, external_read}, Topics.{said_on}}
 use Rattle.oc_omf.specs.declared.topics.Topic.TheVariants as topic
-use Rattle.oc_omf.specs.Cursor.{each_read}
-use Rattle.oc_omf.specs.Entries.{in_file}
-use Rattle.oc_omf.specs.Structures.{communal_read, external_read}
-use Rattle.oc_omf.specs.Topics.{said_on}
-use Rattle.oc_omf_judge.specs.Held.{Held}
-use Rattle.oc_omf_judge.specs.EarlierSymbols.{AreExternalsStopped, IsSeenThere, IsStoppedAnywhere, IsStoppedThere}
+use Rattle.oc_omf_judge.specs.{Held.{Held}, EarlierSymbols.{AreExternalsStopped, IsSeenThere, IsStoppedAnywhere, IsStoppedThere}}
 use Rattle.oc_omf_judge.proofs.SeenEntry.{communals_seen, communals_stop, externals_seen, externals_stop, nothing_seen}
 use Rattle.oc_omf_judge.proofs.symbol_loop.see_entry.Goals as goal
 

@@ -1,7 +1,6 @@
 -- One that is read is taken up.
 use Rattle.std.proofs.Common.{refl, sym, ◌∙◌, ap}
-use Rattle.oc_omf.specs.Cursor.{Reading}
-use Rattle.oc_omf.specs.declared.structures.Segment.{Segment}
+use Rattle.oc_omf.specs.{Cursor.{Reading}, declared.structures.Segment.{Segment}}
 use Rattle.oc_omf_judge.specs.Defined.{part_of}
 use Rattle.oc_omf_judge.proofs.SeenEntry.{segment_lost, segment_seen}
 use Rattle.oc_omf_judge.proofs.symbol_loop.see_segment.Goals as goal

@@ -1,18 +1,12 @@
 -- Each field has a relocation, which nothing stands against; nothing is given for no fields, and all for all.
 use Rattle.std.proofs.Common.{◌≡◌, ◌+◌, ◌<◌, ◌≤◌, List, length, take, refl, sym, subst, arith}
-use Rattle.std.specs.Prelude.{IsOk}
-use Rattle.std.specs.List.Sorted.{IsPermutation}
+use Rattle.std.specs.{Prelude.{IsOk}, List.Sorted.{IsPermutation}}
 use Rattle.oc_neutral.specs.Building.{Draft}
 use Rattle.oc_shows.specs.Built.{HasAdded}
 use Rattle.oc_shows.proofs.BuiltSteps.{added_is, added_same}
-use Rattle.oc_omf.specs.Entries.{entries_in}
-use Rattle.oc_omf.specs.Fields.{fixups_in}
-use Rattle.oc_omf_read.specs.declared.fields.FixupField.{FixupField}
-use Rattle.oc_omf_read.specs.Aims.{meaning_seen}
-use Rattle.oc_omf_read.specs.Built.{started}
-use Rattle.oc_omf_read.specs.Contents.{items_at}
-use Rattle.oc_omf_read.specs.Fields.{fields_of, given_with}
-use Rattle.oc_omf_read.specs.Given.{given_at}
+use Rattle.oc_omf.specs.{Entries.{entries_in}, Fields.{fixups_in}}
+use Rattle.oc_omf_read.specs.{declared.fields.FixupField.{FixupField}, Aims.{meaning_seen}, Built.{started}, Contents.{items_at}}
+use Rattle.oc_omf_read.specs.{Fields.{fields_of, given_with}, Given.{given_at}}
 use Rattle.oc_omf_read.proofs.ReadyFields.{ready_done, ready_inside, ready_section, taken_as}
 use Rattle.oc_omf_read.proofs.added_relocs.add_relocations.Goals as goal
 

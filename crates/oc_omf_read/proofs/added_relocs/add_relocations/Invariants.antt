@@ -2,8 +2,7 @@
 use Rattle.std.proofs.Common.{take}
 use Rattle.oc_shows.specs.Built.{HasAdded}
 use Rattle.oc_omf.specs.Entries.{entries_in}
-use Rattle.oc_omf_read.specs.Built.{started}
-use Rattle.oc_omf_read.specs.Fields.{given_with}
+use Rattle.oc_omf_read.specs.{Built.{started}, Fields.{given_with}}
 use Rattle.oc_omf_read.proofs.added_relocs.add_relocations.Given as goal
 
 abbrev pub invariant-loop-j : goal.invariant-loop-j

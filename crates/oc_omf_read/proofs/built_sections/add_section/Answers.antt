@@ -2,17 +2,12 @@
 use Rattle.std.proofs.Common.{◌≡◌, ◌+◌, ◌∙◌, List, [], length, sym, ap, subst, arith, IsOk, refl}
 use Rattle.std.specs.Prelude.{slice_get}
 use Rattle.std.proofs.lemmas.Option.{same_Some}
-use Rattle.oc_neutral.specs.Building.{Draft, section_added}
-use Rattle.oc_neutral.specs.Invariants.{HasItsBytes}
+use Rattle.oc_neutral.specs.{Building.{Draft, section_added}, Invariants.{HasItsBytes}}
 use Rattle.oc_shows.specs.Started.{stored_section}
 use Rattle.oc_shows.proofs.BuiltSteps.{added_is}
-use Rattle.oc_omf.specs.declared.structures.Segment.{Segment}
-use Rattle.oc_omf.specs.Entries.{entries_in}
-use Rattle.oc_omf.specs.Sections.{section_of}
-use Rattle.oc_omf.specs.Tables.{tables_of}
+use Rattle.oc_omf.specs.{declared.structures.Segment.{Segment}, Entries.{entries_in}, Sections.{section_of}, Tables.{tables_of}}
 use Rattle.oc_omf_read.specs.Built.{sectioned}
-use Rattle.oc_omf_read.proofs.BuildLemmas.{bytes_long, next_added, next_room, next_small, section_known, segment_there}
-use Rattle.oc_omf_read.proofs.SumLemmas.{few_segments}
+use Rattle.oc_omf_read.proofs.{BuildLemmas.{bytes_long, next_added, next_room, next_small, section_known, segment_there}, SumLemmas.{few_segments}}
 use Rattle.oc_omf_read.proofs.built_sections.add_section.Goals as goal
 
 pub section_of-requires-clause-few : goal.section_of-requires-clause-few

@@ -1,7 +1,6 @@
 -- Each section has its bytes.
 use Rattle.std.proofs.Common.{◌≡◌, ℕ, length, Some, sym, ◌∙◌, ap}
-use Rattle.std.specs.Prelude.{slice_get, Vec}
-use Rattle.std.specs.Global.{Global}
+use Rattle.std.specs.{Prelude.{slice_get, Vec}, Global.{Global}}
 use Rattle.std.proofs.lemmas.Option.{slice_get-get_or}
 use Rattle.oc_omf_read.proofs.BuildLemmas.{item_is}
 use Rattle.oc_omf_read.proofs.built_sections.add_sections.Goals as goal

@@ -1,6 +1,5 @@
 use Rattle.std.proofs.Common.{◌≡◌}
-use Rattle.oc_omf.specs.Entries.{entries_in}
-use Rattle.oc_omf.specs.Tables.{tables_of}
+use Rattle.oc_omf.specs.{Entries.{entries_in}, Tables.{tables_of}}
 use Rattle.oc_omf_read.specs.Built.{sectioned}
 use Rattle.oc_omf_read.proofs.built_sections.add_sections.Given as goal
 

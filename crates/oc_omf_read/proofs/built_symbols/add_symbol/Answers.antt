@@ -5,12 +5,8 @@ use Rattle.std.proofs.lemmas.Option.{slice_get-get_or}
 use Rattle.oc_neutral.specs.Building.{Draft, symbol_added}
 use Rattle.oc_shows.proofs.BuiltSteps.{added_is}
 use Rattle.oc_omf.specs.Entries.{entries_in}
-use Rattle.oc_omf_read.specs.declared.mentioned.Mentioned.{Mentioned}
-use Rattle.oc_omf_read.specs.Built.{symboled}
-use Rattle.oc_omf_read.specs.Declarations.{declarations_in}
-use Rattle.oc_omf_read.proofs.CountLemmas.{few_declarations}
-use Rattle.oc_omf_read.proofs.HearLemmas.{few_held}
-use Rattle.oc_omf_read.proofs.SymbolLemmas.{symbol_ready, symbols_room}
+use Rattle.oc_omf_read.specs.{declared.mentioned.Mentioned.{Mentioned}, Built.{symboled}, Declarations.{declarations_in}}
+use Rattle.oc_omf_read.proofs.{CountLemmas.{few_declarations}, HearLemmas.{few_held}, SymbolLemmas.{symbol_ready, symbols_room}}
 use Rattle.oc_omf_read.proofs.built_symbols.add_symbol.Goals as goal
 
 pub overflow_cast-k : goal.overflow_cast-k

@@ -1,7 +1,6 @@
 -- All symbols are added.
 use Rattle.std.proofs.Common.{◌≡◌, length, ◌∙◌, ap, arith}
-use Rattle.oc_omf.specs.Entries.{entries_in}
-use Rattle.oc_omf.specs.Symbols.{symbols_in}
+use Rattle.oc_omf.specs.{Entries.{entries_in}, Symbols.{symbols_in}}
 use Rattle.oc_omf_read.specs.Built.{symboled}
 use Rattle.oc_omf_read.proofs.SymbolLemmas.{all_symbols}
 use Rattle.oc_omf_read.proofs.built_symbols.add_symbols.Goals as goal

@@ -1,11 +1,8 @@
 -- Each entry lays its data over what is there.
 use Rattle.std.proofs.Common.{◌≡◌, length, sym, ◌∙◌, ap, subst, arith}
-use Rattle.oc_omf.specs.Entries.{entries_in, places_in}
-use Rattle.oc_omf.specs.Tables.{tables_of}
-use Rattle.oc_omf_read.specs.Contents.{AreStored}
-use Rattle.oc_omf_read.specs.Defined.{said}
-use Rattle.oc_omf_read.proofs.ContentLemmas.{stored_more, stored_none}
-use Rattle.oc_omf_read.proofs.DefinedLemmas.{entry_here, tables_end}
+use Rattle.oc_omf.specs.{Entries.{entries_in, places_in}, Tables.{tables_of}}
+use Rattle.oc_omf_read.specs.{Contents.{AreStored}, Defined.{said}}
+use Rattle.oc_omf_read.proofs.{ContentLemmas.{stored_more, stored_none}, DefinedLemmas.{entry_here, tables_end}}
 use Rattle.oc_omf_read.proofs.contents.contents_in.Goals as goal
 
 pub zeros_for-requires : goal.zeros_for-requires

@@ -1,5 +1,4 @@
-use Rattle.oc_omf.specs.Entries.{entries_in}
-use Rattle.oc_omf.specs.Tables.{tables_of}
+use Rattle.oc_omf.specs.{Entries.{entries_in}, Tables.{tables_of}}
 use Rattle.oc_omf_read.specs.Contents.{AreStored}
 use Rattle.oc_omf_read.proofs.DefinedLemmas.{tables_upto}
 use Rattle.oc_omf_read.proofs.contents.contents_in.Given as goal

@@ -1,6 +1,5 @@
 use Rattle.std.proofs.Common.{◌≡◌, ◌-◌, ◌++◌, length, map}
-use Rattle.oc_omf.specs.Entries.{all_read}
-use Rattle.oc_omf.specs.Structures.{communal_read}
+use Rattle.oc_omf.specs.{Entries.{all_read}, Structures.{communal_read}}
 use Rattle.oc_omf.proofs.EachLemmas.{each_from}
 use Rattle.oc_omf_read.specs.Declarations.{all_declarations, of_external}
 use Rattle.oc_omf_read.proofs.declarations.declare_communals.Given as goal

@@ -1,7 +1,6 @@
 -- What is left is read from where the last mention ends.
 use Rattle.std.proofs.Common.{◌<◌, ◌≤◌, ◌++◌, None, length, map, sym, ◌∙◌, ap, arith, refl, append-nil}
-use Rattle.oc_omf.specs.Entries.{all_read}
-use Rattle.oc_omf.specs.Structures.{external_read}
+use Rattle.oc_omf.specs.{Entries.{all_read}, Structures.{external_read}}
 use Rattle.oc_omf.proofs.EachLemmas.{each_begin, each_end, each_from, each_more}
 use Rattle.oc_omf_read.specs.Declarations.{all_declarations, of_external}
 use Rattle.oc_omf_read.proofs.DeclarationLemmas.{declarations_more}

@@ -1,7 +1,6 @@
 -- What is left is read from where the last mention ends.
 use Rattle.std.proofs.Common.{◌<◌, ◌≤◌, ◌++◌, length, map, sym, ◌∙◌, ap, arith, refl, append-nil}
-use Rattle.oc_omf.specs.Entries.{all_read}
-use Rattle.oc_omf.specs.Structures.{public_read}
+use Rattle.oc_omf.specs.{Entries.{all_read}, Structures.{public_read}}
 use Rattle.oc_omf.proofs.EachLemmas.{each_behind, each_end, each_from, each_more}
 use Rattle.oc_omf_read.specs.Declarations.{all_declarations, of_public}
 use Rattle.oc_omf_read.proofs.DeclarationLemmas.{declarations_more}

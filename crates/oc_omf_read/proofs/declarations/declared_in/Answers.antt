@@ -1,11 +1,9 @@
 -- Each entry mentions what it says.
 use Rattle.std.proofs.Common.{◌≡◌, ◌++◌, length, List, sym, ◌∙◌, ap, arith}
 use Rattle.oc_omf.specs.Entries.{places_in}
-use Rattle.oc_omf_read.specs.declared.declarations.DeclarationRef.{DeclarationRef}
-use Rattle.oc_omf_read.specs.Defined.{said}
+use Rattle.oc_omf_read.specs.{declared.declarations.DeclarationRef.{DeclarationRef}, Defined.{said}}
 use Rattle.oc_omf_read.specs.Declarations.{Declaration, all_declarations, declarations_by}
-use Rattle.oc_omf_read.proofs.DefinedLemmas.{entry_here}
-use Rattle.oc_omf_read.proofs.DeclarationLemmas.{declarations_end, declarations_none, declarations_step}
+use Rattle.oc_omf_read.proofs.{DefinedLemmas.{entry_here}, DeclarationLemmas.{declarations_end, declarations_none, declarations_step}}
 use Rattle.oc_omf_read.proofs.declarations.declared_in.Goals as goal
 
 pub loop-i-init : goal.loop-i-init

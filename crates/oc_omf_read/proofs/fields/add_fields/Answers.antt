@@ -1,8 +1,7 @@
 -- Each copy stands in the data, and these in a small section.
 use Rattle.std.proofs.Common.{◌≡◌, ℕ, ◌<◌, List, get_or, length, sym, subst, arith, rules}
 use Rattle.oc_omf_records.specs.Blocks.{size_of}
-use Rattle.oc_omf_read.specs.Fields.{copies_in}
-use Rattle.oc_omf_read.specs.Pieces.{row_in}
+use Rattle.oc_omf_read.specs.{Fields.{copies_in}, Pieces.{row_in}}
 use Rattle.oc_omf_read.proofs.CopyLemmas.{copies_low}
 use Rattle.oc_omf_read.proofs.fields.add_fields.Goals as goal
 

@@ -1,8 +1,7 @@
 -- An entry has threads and fixups, or else data or none.
 use Rattle.std.proofs.Common.{sym}
 use Rattle.std.proofs.lemmas.Result.{on_ok_weaker}
-use Rattle.oc_omf_read.proofs.DefinedLemmas.{entry_here}
-use Rattle.oc_omf_read.proofs.FieldLemmas.{not_fixups, with_data}
+use Rattle.oc_omf_read.proofs.{DefinedLemmas.{entry_here}, FieldLemmas.{not_fixups, with_data}}
 use Rattle.oc_omf_read.proofs.fields.take_entry.Goals as goal
 
 pub take_subrecords-requires-clause-low : goal.take_subrecords-requires-clause-low

@@ -1,8 +1,7 @@
 -- What is left is read from where the last thread or fixup ends.
 use Rattle.std.proofs.Common.{◌<◌, ◌≤◌, Ok, length, refl, sym, ◌∙◌, ap, subst, arith}
 use Rattle.oc_omf_read.specs.Fields.{AreLow}
-use Rattle.oc_omf_read.proofs.FieldLemmas.{walk_begins, walk_cut, walk_ends, walk_fixup, walk_thread}
-use Rattle.oc_omf_read.proofs.GoesLemmas.{thread_low}
+use Rattle.oc_omf_read.proofs.{FieldLemmas.{walk_begins, walk_cut, walk_ends, walk_fixup, walk_thread}, GoesLemmas.{thread_low}}
 use Rattle.oc_omf_read.proofs.fields.take_subrecords.Goals as goal
 use Rattle.oc_omf_judge.proofs.SubrecordLemmas.{subrecord_goes}
 

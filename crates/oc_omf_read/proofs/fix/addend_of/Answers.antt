@@ -4,8 +4,7 @@ use Rattle.std.specs.Prelude.{ℤ, neg_ℤ}
 use Rattle.std.proofs.lemmas.Int.{ints}
 use Rattle.oc_base.specs.declared.format.Word.TheVariants.{W32}
 use Rattle.oc_linking.specs.declared.terms.Width.TheVariants.{Four}
-use Rattle.oc_algebra.specs.Fields.{extended, from_field_of}
-use Rattle.oc_algebra.specs.Residues.{reduced_number}
+use Rattle.oc_algebra.specs.{Fields.{extended, from_field_of}, Residues.{reduced_number}}
 use Rattle.oc_neutral.specs.Omf.Relocs.{fixup_row}
 use Rattle.oc_omf_read.specs.Fixing.{framed_as}
 use Rattle.oc_omf_read.proofs.fix.addend_of.Goals as goal

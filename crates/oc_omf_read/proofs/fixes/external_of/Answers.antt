@@ -3,8 +3,7 @@ use Rattle.std.proofs.Common.{◌≡◌, ◌+◌, ◌-◌, ◌<◌, length, Some
 use Rattle.std.specs.Prelude.{slice_get}
 use Rattle.std.proofs.lemmas.Option.{slice_get_read}
 use Rattle.oc_neutral.specs.declared.reloc.Target.TheVariants as target
-use Rattle.oc_omf.specs.Entries.{entries_in}
-use Rattle.oc_omf.specs.Tables.{tables_of}
+use Rattle.oc_omf.specs.{Entries.{entries_in}, Tables.{tables_of}}
 use Rattle.oc_omf_read.specs.Aims.{external_aim, meaning_seen}
 use Rattle.oc_omf_read.proofs.AimLemmas.{as_many_externals, external_named, external_none, not_indexed, number_there, zero_indexed}
 use Rattle.oc_omf_read.proofs.fixes.external_of.Goals as goal

@@ -2,10 +2,8 @@
 use Rattle.std.proofs.Common.{◌≡◌, ◌-◌, ◌<◌, ◌≢◌, true, List, ℕ, length, Some, refl, sym, ◌∙◌, ap, arith, rules}
 use Rattle.std.specs.Prelude.{nat_eq, bytes_eq, codes, slice_get}
 use Rattle.std.proofs.lemmas.Option.{slice_get_read}
-use Rattle.oc_omf.specs.Entries.{entries_in}
-use Rattle.oc_omf.specs.Tables.{name_at, tables_of}
-use Rattle.oc_omf_read.proofs.AimLemmas.{as_many_groups, flat_by, flat_none, group_is, not_indexed, some_indexed, zero_indexed}
-use Rattle.oc_omf_read.proofs.ContentLemmas.{known_name}
+use Rattle.oc_omf.specs.{Entries.{entries_in}, Tables.{name_at, tables_of}}
+use Rattle.oc_omf_read.proofs.{AimLemmas.{as_many_groups, flat_by, flat_none, group_is, not_indexed, some_indexed, zero_indexed}, ContentLemmas.{known_name}}
 use Rattle.oc_omf_read.proofs.fixes.is_flat.Goals as goal
 
 pub returns-then-index-eq0 : goal.returns-then-index-eq0

@@ -1,7 +1,6 @@
 -- A segment is kept by its kind.
 use Rattle.std.proofs.Common.{◌≡◌, ◌+◌, ◌-◌, ◌<◌, length, sym, ◌∙◌, ap, arith}
-use Rattle.oc_omf.specs.Entries.{entries_in}
-use Rattle.oc_omf.specs.Tables.{tables_of}
+use Rattle.oc_omf.specs.{Entries.{entries_in}, Tables.{tables_of}}
 use Rattle.oc_omf_read.specs.Aims.{is_kept, meaning_seen}
 use Rattle.oc_omf_read.proofs.AimLemmas.{kept_none, kept_seen, not_indexed, zero_indexed}
 use Rattle.oc_omf_read.proofs.fixes.is_kept.Goals as goal

@@ -1,11 +1,8 @@
 -- Each field is given, and what is built of fields shows the module.
 use Rattle.oc_shows.proofs.BuiltLaws.{built_shows}
-use Rattle.oc_omf.specs.Entries.{entries_in}
-use Rattle.oc_omf.specs.Rules.{omf_dialect}
-use Rattle.oc_omf_read.specs.Built.{started}
-use Rattle.oc_omf_read.specs.Given.{given_at}
-use Rattle.oc_omf_read.proofs.GivenFields.{free_or_given}
-use Rattle.oc_omf_read.proofs.StartLemmas.{is_started}
+use Rattle.oc_omf.specs.{Entries.{entries_in}, Rules.{omf_dialect}}
+use Rattle.oc_omf_read.specs.{Built.{started}, Given.{given_at}}
+use Rattle.oc_omf_read.proofs.{GivenFields.{free_or_given}, StartLemmas.{is_started}}
 use Rattle.oc_omf_read.proofs.laws.clean_is_shown.Goals as goal
 
 pub returns : goal.returns

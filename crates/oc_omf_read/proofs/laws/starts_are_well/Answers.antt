@@ -1,6 +1,5 @@
 -- By the sections and the symbols.
-use Rattle.oc_omf_read.proofs.ReadableLemmas.{readable}
-use Rattle.oc_omf_read.proofs.StartLemmas.{is_started}
+use Rattle.oc_omf_read.proofs.{ReadableLemmas.{readable}, StartLemmas.{is_started}}
 use Rattle.oc_omf_read.proofs.laws.starts_are_well.Goals as goal
 
 pub returns : goal.returns

@@ -1,9 +1,7 @@
 -- A symbol that is new has the next number.
 use Rattle.std.proofs.Common.{◌∷◌, ◌++◌, [], cond, List, Some, None, sym, ◌∙◌, ap}
 use Rattle.oc_omf.specs.Symbols.{Mention, same_symbol}
-use Rattle.oc_omf_read.specs.declared.mentioned.Mentioned.{Mentioned}
-use Rattle.oc_omf_read.specs.declared.mentioned.Mentions.{Mentions}
-use Rattle.oc_omf_read.specs.Mentioned.{held, number_among, number_held}
+use Rattle.oc_omf_read.specs.{declared.mentioned.Mentioned.{Mentioned}, declared.mentioned.Mentions.{Mentions}, Mentioned.{held, number_among, number_held}}
 use Rattle.oc_omf_read.proofs.HearLemmas.{held_push, length_held, number_next, numbered_push}
 use Rattle.oc_omf_read.proofs.mentioned.add_symbol.Goals as goal
 

@@ -1,6 +1,5 @@
 use Rattle.std.proofs.Common.{take}
-use Rattle.oc_omf_read.specs.Declarations.{all_declarations}
-use Rattle.oc_omf_read.specs.Mentioned.{HasDeclarations}
+use Rattle.oc_omf_read.specs.{Declarations.{all_declarations}, Mentioned.{HasDeclarations}}
 use Rattle.oc_omf_read.proofs.mentioned.mentions_of.Given as goal
 
 -- the mentions before are taken up

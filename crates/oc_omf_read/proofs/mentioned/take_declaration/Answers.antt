@@ -2,8 +2,7 @@
 use Rattle.std.proofs.Common.{◌∷◌, ◌++◌, [], take, refl, sym, ◌∙◌, ap, arith, append-nil, length-take}
 use Rattle.std.specs.List.{cons_option}
 use Rattle.std.proofs.lemmas.List.{length-map}
-use Rattle.oc_omf_read.specs.Declarations.{all_declarations, declaration_of}
-use Rattle.oc_omf_read.specs.Mentioned.{external_said}
+use Rattle.oc_omf_read.specs.{Declarations.{all_declarations, declaration_of}, Mentioned.{external_said}}
 use Rattle.oc_omf_read.proofs.HearLemmas.{few_held, heard_next, number_inside}
 use Rattle.oc_omf_read.proofs.mentioned.take_declaration.Goals as goal
 

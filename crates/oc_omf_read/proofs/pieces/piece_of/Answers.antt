@@ -2,8 +2,7 @@
 use Rattle.std.proofs.Common.{sym, subst}
 use Rattle.std.specs.Prelude.{IfOk}
 use Rattle.oc_omf_read.specs.Pieces.{ArePieces}
-use Rattle.oc_omf_read.proofs.ClassLemmas.{no_data}
-use Rattle.oc_omf_read.proofs.PieceLemmas.{iterated_pieces, no_pieces, plain_pieces}
+use Rattle.oc_omf_read.proofs.{ClassLemmas.{no_data}, PieceLemmas.{iterated_pieces, no_pieces, plain_pieces}}
 use Rattle.oc_omf_read.proofs.pieces.piece_of.Goals as goal
 
 pub returns-in-Plain : goal.returns-in-Plain

@@ -1,9 +1,6 @@
 -- What is read, piece by piece.
 use Rattle.std.proofs.Common.{◌∙◌, ap, refl, drop}
-use Rattle.oc_omf.specs.Cursor.{number_read}
-use Rattle.oc_omf.specs.Sections.{blocks_in}
-use Rattle.oc_omf.specs.Structures.{blocks_by, long_size}
-use Rattle.oc_omf.specs.Entries.{is_wide}
+use Rattle.oc_omf.specs.{Cursor.{number_read}, Sections.{blocks_in}, Structures.{blocks_by, long_size}, Entries.{is_wide}}
 use Rattle.oc_omf_read.proofs.PieceLemmas.{number_inside, piece_cut, piece_cut_later, piece_made}
 use Rattle.oc_omf_read.proofs.pieces.read_piece.Goals as goal
 

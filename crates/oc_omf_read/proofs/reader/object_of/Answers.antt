@@ -2,16 +2,10 @@
 use Rattle.std.proofs.Common.{length, sym, ◌∙◌, ap, subst, arith}
 use Rattle.std.proofs.lemmas.List.{length-map}
 use Rattle.oc_neutral.specs.Invariants.{AreBytes, IsDraft}
-use Rattle.oc_shows.specs.Readable.{IsReadable}
-use Rattle.oc_shows.specs.Shows.{Shows}
-use Rattle.oc_omf.specs.Entries.{entries_in}
-use Rattle.oc_omf.specs.Rules.{omf_dialect}
-use Rattle.oc_omf.specs.Tables.{tables_of}
-use Rattle.oc_omf_read.specs.Contents.{AreStored}
-use Rattle.oc_omf_read.specs.Declarations.{declaration_of}
-use Rattle.oc_omf_read.proofs.CountLemmas.{few_declarations}
-use Rattle.oc_omf_read.proofs.StartLemmas.{is_started}
-use Rattle.oc_omf_read.proofs.WholeFile.{read_complete, read_readable, read_shows}
+use Rattle.oc_shows.specs.{Readable.{IsReadable}, Shows.{Shows}}
+use Rattle.oc_omf.specs.{Entries.{entries_in}, Rules.{omf_dialect}, Tables.{tables_of}}
+use Rattle.oc_omf_read.specs.{Contents.{AreStored}, Declarations.{declaration_of}}
+use Rattle.oc_omf_read.proofs.{CountLemmas.{few_declarations}, StartLemmas.{is_started}, WholeFile.{read_complete, read_readable, read_shows}}
 use Rattle.oc_omf_read.proofs.reader.object_of.Goals as goal
 
 pub mentions_of-requires : goal.mentions_of-requires

@@ -2,10 +2,7 @@
 use Rattle.std.proofs.Common.{◌≡◌, ℕ, List, sym, subst}
 use Rattle.std.specs.Prelude.{None}
 use Rattle.oc_linking.specs.FirstFault.{first_fault, stage_fault}
-use Rattle.oc_omf.specs.Entries.{entries_in}
-use Rattle.oc_omf.specs.RelocationFaults.{relocation_stages}
-use Rattle.oc_omf.specs.SectionFaults.{section_stage}
-use Rattle.oc_omf.specs.SymbolFaults.{symbol_stages}
+use Rattle.oc_omf.specs.{Entries.{entries_in}, RelocationFaults.{relocation_stages}, SectionFaults.{section_stage}, SymbolFaults.{symbol_stages}}
 use Rattle.oc_omf_read.proofs.WholeFile.{stages_clean}
 use Rattle.oc_omf_read.proofs.reader.read_bytes.Goals as goal
 

@@ -1,7 +1,6 @@
 -- All sections are added before the first symbol.
 use Rattle.std.proofs.Common.{length, refl, ◌∙◌}
-use Rattle.oc_omf.specs.Entries.{entries_in}
-use Rattle.oc_omf.specs.Tables.{tables_of}
+use Rattle.oc_omf.specs.{Entries.{entries_in}, Tables.{tables_of}}
 use Rattle.oc_omf_read.proofs.BuildLemmas.{all_yet}
 use Rattle.oc_omf_read.proofs.started.start.Goals as goal
 

@@ -1,11 +1,8 @@
 use Rattle.std.proofs.Common.{◌∙◌, ap, arith}
-use Rattle.std.proofs.lemmas.Grind.{common_steps}
-use Rattle.std.proofs.lemmas.List.{append-nil}
+use Rattle.std.proofs.lemmas.{Grind.{common_steps}, List.{append-nil}}
 use Rattle.std.proofs.Math.Seq.{drop-append_seam, take-append_seam}
-use Rattle.oc_omf_records.specs.Blocks.{denotation}
-use Rattle.oc_omf_records.specs.Rows.{row_of, rows_of}
-use Rattle.oc_omf_records.proofs.RowLemmas.{denotation-behind}
-use Rattle.oc_omf_records.proofs.SizedLemmas.{row_of-Nested}
+use Rattle.oc_omf_records.specs.{Blocks.{denotation}, Rows.{row_of, rows_of}}
+use Rattle.oc_omf_records.proofs.{RowLemmas.{denotation-behind}, SizedLemmas.{row_of-Nested}}
 use Rattle.oc_omf_records.proofs.expanding.+expanding.Goals as goal
 
 pub expand_row-loop-block-preserved : goal.expand_row-loop-block-preserved

@@ -1,6 +1,5 @@
 use Rattle.std.proofs.Common.{◌≡◌, ◌++◌, take}
-use Rattle.oc_omf_records.specs.Blocks.{denotation}
-use Rattle.oc_omf_records.specs.Rows.{rows_of}
+use Rattle.oc_omf_records.specs.{Blocks.{denotation}, Rows.{rows_of}}
 use Rattle.oc_omf_records.proofs.expanding.+expanding.Given as goal
 
 -- what was there, and behind it what the blocks so far stand for

@@ -1,6 +1,5 @@
 use Rattle.std.proofs.Common.{◌≡◌, ◌+◌, ◌-◌, ◌*◌, ◌≤◌, length, true}
-use Rattle.oc_omf_records.specs.BlockReading.{in_front, block_at, row_at}
-use Rattle.oc_omf_records.specs.Rows.{rows_of, are_sized}
+use Rattle.oc_omf_records.specs.{BlockReading.{in_front, block_at, row_at}, Rows.{rows_of, are_sized}}
 use Rattle.oc_omf_records.proofs.reading.+reading.Given as goal
 
 -- a row is read one block at a time, each one level further down

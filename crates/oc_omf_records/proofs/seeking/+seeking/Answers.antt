@@ -1,10 +1,6 @@
 use Rattle.std.proofs.Common.{rules, ◌≡◌, ℕ, ◌∙◌, Bool, ◌&&◌, nat_lt, List, Vec, Global, sym, ap, arith, take, subst, length}
-use Rattle.oc_omf_records.specs.declared.iterated.Iterated.{Iterated}
-use Rattle.oc_omf_records.specs.declared.seeking.Sought.{Sought}
-use Rattle.oc_omf_records.specs.declared.seeking.Sought.TheVariants.{Found}
-use Rattle.oc_omf_records.specs.Blocks.{in_each, size_of, in_content}
-use Rattle.oc_omf_records.specs.Rows.{row_of, rows_of}
-use Rattle.oc_omf_records.specs.Seeking.{Finds, places_in, kept}
+use Rattle.oc_omf_records.specs.{declared.iterated.Iterated.{Iterated}, declared.seeking.Sought.{Sought}, declared.seeking.Sought.TheVariants.{Found}}
+use Rattle.oc_omf_records.specs.{Blocks.{in_each, size_of, in_content}, Rows.{row_of, rows_of}, Seeking.{Finds, places_in, kept}}
 use Rattle.oc_omf_records.proofs.RowLemmas.{blocks_in-item, blocks_in-inside}
 use Rattle.oc_omf_records.proofs.SizedLemmas.{row_of-Content, row_of-Nested, kept_size, kept_blocks, are_sized-item}
 use Rattle.oc_omf_records.proofs.SeekingLemmas.{live_inside, size_of-next, fits_behind, fits_repeated, Finds-in_next, Finds-beyond_next, Finds-in_copies, Finds-in_content, fits_low, in_each-low}

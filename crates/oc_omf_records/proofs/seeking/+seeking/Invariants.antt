@@ -1,7 +1,5 @@
 use Rattle.std.proofs.Common.{◌+◌, ◌*◌, take}
-use Rattle.oc_omf_records.specs.declared.seeking.Sought.TheVariants.{Beyond}
-use Rattle.oc_omf_records.specs.Rows.{row_of, rows_of}
-use Rattle.oc_omf_records.specs.Seeking.{Finds}
+use Rattle.oc_omf_records.specs.{declared.seeking.Sought.TheVariants.{Beyond}, Rows.{row_of, rows_of}, Seeking.{Finds}}
 use Rattle.oc_omf_records.proofs.RowLemmas.{blocks_in}
 use Rattle.oc_omf_records.proofs.seeking.+seeking.Given as goal
 

@@ -2,8 +2,8 @@ use Rattle.std.proofs.Common.{◌≡◌, ◌∙◌, ℕ, List, [], ◌∷◌, le
 use Rattle.std.proofs.lemmas.Bool.Decides.{nat_tests}
 use Rattle.oc_omf_records.specs.Blocks.{in_each}
 use Rattle.oc_omf_records.proofs.SeekingLemmas.{in_each-empty, in_each-one}
-use Rattle.oc_omf_records.proofs.seeking.in_each_row.Goals as goal
 use Rattle.oc_omf_records.proofs.seeking.in_each_row.Goals.{then-is_empty-via-then-is_empty, then-is_empty-via-else-is_empty+then-count-eq1}
+use Rattle.oc_omf_records.proofs.seeking.in_each_row.Goals as goal
 
 pub returns-then-is_empty : goal.returns-then-is_empty
 returns-then-is_empty c = elim c.then-is_empty.branch [

@@ -1,12 +1,10 @@
 -- Each turn adds the fixups of the next section.
 use Rattle.std.proofs.Common.{ℕ, ◌+◌, List, [], ◌∷◌, ◌++◌, map, drop, ◌∙◌, ap, arith, Vec, Global}
 use Rattle.std.specs.List.{enumerate_from}
-use Rattle.oc_neutral.specs.declared.section.Section.{Section}
-use Rattle.oc_neutral.specs.Objects.{Object}
+use Rattle.oc_neutral.specs.{declared.section.Section.{Section}, Objects.{Object}}
 use Rattle.oc_neutral.proofs.Positions.{there_at}
 use Rattle.oc_target.proofs.Steps.{more_done}
-use Rattle.oc_omf_write.specs.declared.fixups.Fixup.{Fixup}
-use Rattle.oc_omf_write.specs.Written.{fixups_in, fixups_of}
+use Rattle.oc_omf_write.specs.{declared.fixups.Fixup.{Fixup}, Written.{fixups_in, fixups_of}}
 use Rattle.oc_plans.proofs.Turns.{map_append, map_step}
 use Rattle.oc_omf_write.proofs.fixups.all_fixups.Goals as goal
 

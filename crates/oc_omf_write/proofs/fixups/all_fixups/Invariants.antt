@@ -1,8 +1,7 @@
 use Rattle.std.proofs.Common.{◌≡◌, ℕ, ◌++◌, map, drop, Vec, Global}
 use Rattle.std.specs.List.{enumerate_from}
 use Rattle.oc_neutral.specs.declared.section.Section.{Section}
-use Rattle.oc_omf_write.specs.declared.fixups.Fixup.{Fixup}
-use Rattle.oc_omf_write.specs.Written.{fixups_in, fixups_of}
+use Rattle.oc_omf_write.specs.{declared.fixups.Fixup.{Fixup}, Written.{fixups_in, fixups_of}}
 use Rattle.oc_omf_write.proofs.fixups.all_fixups.Given as goal
 
 -- the fixups of the sections so far, and those that are left

@@ -1,17 +1,12 @@
 -- Each turn lays an entry as long as it is.
 use Rattle.std.proofs.Common.{◌+◌, length, take, get_or, sym, ◌∙◌, ap, subst, arith}
-use Rattle.std.proofs.lemmas.List.{take_all}
-use Rattle.std.proofs.lemmas.Option.{slice_get-get_or}
-use Rattle.oc_neutral.proofs.Positions.{each_at}
-use Rattle.oc_neutral.proofs.FieldLists.{take_here}
+use Rattle.std.proofs.lemmas.{List.{take_all}, Option.{slice_get-get_or}}
+use Rattle.oc_neutral.proofs.{Positions.{each_at}, FieldLists.{take_here}}
 use Rattle.oc_shelf.specs.Writing.Parts.{aligned, behind}
 use Rattle.oc_plans.proofs.PlacedLemmas.{aligned_one, laid_more, none_laid}
 use Rattle.oc_omf.specs.Bytes.{entry_bytes}
-use Rattle.oc_omf_write.specs.declared.entries.Entry.{Entry}
+use Rattle.oc_omf_write.specs.{declared.entries.Entry.{Entry}, Entries.{type_of}, Plans.{AreLaid}, Tables.{CanPut, bytes_by}}
 use Rattle.oc_omf_write.specs.declared.entries.Entry.TheVariants as entry
-use Rattle.oc_omf_write.specs.Entries.{type_of}
-use Rattle.oc_omf_write.specs.Plans.{AreLaid}
-use Rattle.oc_omf_write.specs.Tables.{CanPut, bytes_by}
 use Rattle.oc_omf_write.proofs.layout.layout_of.Goals as goal
 
 pub loop-entry-init : goal.loop-entry-init

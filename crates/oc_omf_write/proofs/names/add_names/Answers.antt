@@ -1,15 +1,13 @@
 -- Each turn leaves the name where it has room, or begins another entry with it.
 use Rattle.std.proofs.Common.{◌≡◌, ◌+◌, ◌<◌, ◌++◌, [], ◌∷◌, List, ℕ, length, map, Some, get_or, sym, ◌∙◌, ap, subst, arith, Vec, Global}
 use Rattle.std.specs.Prelude.{slice_get}
-use Rattle.std.proofs.lemmas.List.{length-map}
-use Rattle.std.proofs.lemmas.Option.{slice_get-get_or}
+use Rattle.std.proofs.lemmas.{List.{length-map}, Option.{slice_get-get_or}}
 use Rattle.oc_shelf.proofs.WritingLaws.MemberLemmas.{member_map}
-use Rattle.oc_omf_write.specs.declared.entries.Entry.{Entry}
+use Rattle.oc_omf_write.specs.{declared.entries.Entry.{Entry}, Names.{text_by, names_entry}}
 use Rattle.oc_omf_write.specs.declared.names.Name.TheVariants as name
-use Rattle.oc_omf_write.specs.Names.{text_by, names_entry}
 use Rattle.oc_omf_write.proofs.FillLemmas.{IsFilling, filling_fits, filling_breaks, filling_done}
-use Rattle.oc_omf_write.proofs.names.add_names.Goals as goal
 use Rattle.oc_omf_write.proofs.names.add_names.Goals.{then-size-long-gt-MOST_ENTRY_BYTES+in_ok-push, else-size-long-gt-MOST_ENTRY_BYTES}
+use Rattle.oc_omf_write.proofs.names.add_names.Goals as goal
 
 pub loop-k-preserved : goal.loop-k-preserved
 loop-k-preserved c =

@@ -1,6 +1,5 @@
 use Rattle.std.proofs.Common.{◌≡◌, ◌≤◌, ◌<◌, ◌+◌, ℕ, length, drop}
-use Rattle.std.specs.Prelude.{slice_index_or}
-use Rattle.std.specs.List.{position_or_len}
+use Rattle.std.specs.{Prelude.{slice_index_or}, List.{position_or_len}}
 use Rattle.oc_omf_write.specs.Numbers.{is_of_symbol}
 use Rattle.oc_omf_write.proofs.numbers.numbers_of.Given as goal
 

@@ -1,10 +1,8 @@
 -- Each turn adds the entries of the next section.
 use Rattle.std.proofs.Common.{◌≡◌, ◌<◌, ◌++◌, ℕ, List, length, map, get_or, sym, ◌∙◌, ap, subst, arith, Vec, Global}
-use Rattle.std.proofs.lemmas.List.{length-map}
-use Rattle.std.proofs.lemmas.Option.{slice_get-get_or}
+use Rattle.std.proofs.lemmas.{List.{length-map}, Option.{slice_get-get_or}}
 use Rattle.oc_neutral.specs.declared.section.Section.{Section}
-use Rattle.oc_omf_write.specs.declared.fixups.Fixup.{Fixup}
-use Rattle.oc_omf_write.specs.Pieces.{FollowWithin, fixups_at, section_entries}
+use Rattle.oc_omf_write.specs.{declared.fixups.Fixup.{Fixup}, Pieces.{FollowWithin, fixups_at, section_entries}}
 use Rattle.oc_omf_write.proofs.DataLemmas.{fixups_indexed, data_more, data_done}
 use Rattle.oc_omf_write.proofs.pieces.add_data.Goals as goal
 

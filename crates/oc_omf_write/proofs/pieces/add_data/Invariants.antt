@@ -1,6 +1,5 @@
 use Rattle.std.proofs.Common.{◌≡◌, ◌++◌, map, Vec, Global}
-use Rattle.oc_omf_write.specs.declared.fixups.Fixup.{Fixup}
-use Rattle.oc_omf_write.specs.Pieces.{data_entries}
+use Rattle.oc_omf_write.specs.{declared.fixups.Fixup.{Fixup}, Pieces.{data_entries}}
 use Rattle.oc_omf_write.proofs.DataLemmas.{data_left}
 use Rattle.oc_omf_write.proofs.pieces.add_data.Given as goal
 

@@ -1,8 +1,7 @@
 -- The last field below the offset is the one that could be cut.
 use Rattle.std.proofs.Common.{◌≡◌, ◌+◌, ◌-◌, true, false, cond, nat_lt, Some, None, get_or, sym, ◌∙◌, ap, arith}
 use Rattle.std.specs.Option.{unwrap_or}
-use Rattle.std.proofs.lemmas.Bool.Decides.{nat_tests}
-use Rattle.std.proofs.lemmas.Option.{slice_get-get_or}
+use Rattle.std.proofs.lemmas.{Bool.Decides.{nat_tests}, Option.{slice_get-get_or}}
 use Rattle.oc_omf_write.specs.declared.fixups.Fixup.{Fixup}
 use Rattle.oc_omf_write.proofs.PieceLemmas.{uncut_none, uncut_last, below_at}
 use Rattle.oc_omf_write.proofs.pieces.uncut.Goals as goal

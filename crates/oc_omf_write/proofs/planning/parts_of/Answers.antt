@@ -1,8 +1,7 @@
 -- The fields lie in the bytes of their sections, and their numbers can be written.
 use Rattle.std.proofs.Common.{refl, sym, ◌∙◌, subst}
 use Rattle.oc_chains.specs.Lists.{Lists, list_of}
-use Rattle.oc_neutral.specs.declared.reloc.Reloc.{Reloc}
-use Rattle.oc_neutral.specs.Objects.{Object}
+use Rattle.oc_neutral.specs.{declared.reloc.Reloc.{Reloc}, Objects.{Object}}
 use Rattle.oc_plans.specs.Numbered.{AreAll}
 use Rattle.oc_plans.proofs.FieldBytes.{parts_numbered, parts_within}
 use Rattle.oc_omf_file.proofs.CodedLaws.{for_omf}

@@ -3,12 +3,9 @@ use Rattle.std.proofs.Common.{List, length, sym, ◌∙◌, ap, subst, arith}
 use Rattle.std.specs.List.{AllByRecursion}
 use Rattle.oc_target.specs.Fitted.{IsFitted}
 use Rattle.oc_omf_file.proofs.CodedLaws.{for_omf}
-use Rattle.oc_omf_write.specs.declared.entries.Entry.{Entry}
+use Rattle.oc_omf_write.specs.{declared.entries.Entry.{Entry}, Plans.{AreEntries, AreLaid}, Tables.{CanPut}}
 use Rattle.oc_shelf.specs.Writing.Parts.{file_of}
-use Rattle.oc_omf_write.specs.Plans.{AreEntries, AreLaid}
-use Rattle.oc_omf_write.specs.Tables.{CanPut}
-use Rattle.oc_omf_write.proofs.MadeLemmas.{made_sound, made_inside, few_sections, few_texts, made_few, made_put, made_same}
-use Rattle.oc_omf_write.proofs.PlanLemmas.{file_is, placed}
+use Rattle.oc_omf_write.proofs.{MadeLemmas.{made_sound, made_inside, few_sections, few_texts, made_few, made_put, made_same}, PlanLemmas.{file_is, placed}}
 use Rattle.oc_omf_write.proofs.planning.plan_object.Goals as goal
 
 pub entries_of-requires-clause-few : goal.entries_of-requires-clause-few

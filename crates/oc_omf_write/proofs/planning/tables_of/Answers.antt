@@ -2,19 +2,13 @@
 use Rattle.std.proofs.Common.{◌≡◌, ◌^◌, ◌≤◌, ℕ, List, length, map, sym, ◌∙◌, ap, subst, arith}
 use Rattle.std.specs.List.{AllByRecursion}
 use Rattle.std.proofs.lemmas.List.{length-map}
-use Rattle.oc_neutral.specs.declared.section.Section.{Section}
+use Rattle.oc_neutral.specs.{declared.section.Section.{Section}, Objects.{Object}}
 use Rattle.oc_target.specs.Fitted.{IsFitted}
-use Rattle.oc_neutral.specs.Objects.{Object}
 use Rattle.oc_omf_file.specs.Outputs.{symbol_outputs}
 use Rattle.oc_omf_file.proofs.CodedLaws.{for_omf, few_names}
-use Rattle.oc_omf_write.specs.Entries.{entry_for}
-use Rattle.oc_omf_write.specs.Names.{AreNames, IsNameOf, IsSegment, names_for, segment_in, text_by}
-use Rattle.oc_omf_write.specs.Numbers.{AreNumbers, HasPlace}
-use Rattle.oc_omf_write.specs.Raws.{sections_in}
-use Rattle.oc_omf_write.specs.Written.{fixups_in}
-use Rattle.oc_omf_write.proofs.NumberLemmas.{are_numbers}
-use Rattle.oc_omf_write.proofs.PlannedLemmas.{names_same}
-use Rattle.oc_omf_write.proofs.SegmentLemmas.{are_segments}
+use Rattle.oc_omf_write.specs.{Entries.{entry_for}, Names.{AreNames, IsNameOf, IsSegment, names_for, segment_in, text_by}, Numbers.{AreNumbers, HasPlace}}
+use Rattle.oc_omf_write.specs.{Raws.{sections_in}, Written.{fixups_in}}
+use Rattle.oc_omf_write.proofs.{NumberLemmas.{are_numbers}, PlannedLemmas.{names_same}, SegmentLemmas.{are_segments}}
 use Rattle.oc_omf_write.proofs.ReadyLemmas.{all_places, few_entries, are_made, sections_in_counted}
 use Rattle.oc_omf_write.proofs.planning.tables_of.Goals as goal
 

@@ -1,6 +1,5 @@
 use Rattle.std.proofs.Common.{◌≡◌, ◌++◌, map}
-use Rattle.std.specs.Prelude.{filter_map}
-use Rattle.std.specs.List.{enumerate_from}
+use Rattle.std.specs.{Prelude.{filter_map}, List.{enumerate_from}}
 use Rattle.oc_omf_file.specs.Outputs.{external_output}
 use Rattle.oc_omf_write.specs.Entries.{entry_for}
 use Rattle.oc_omf_write.proofs.SymbolLemmas.{entries_left}

@@ -1,8 +1,6 @@
 use Rattle.std.proofs.Common.{◌≡◌, ◌+◌, ◌-◌, ◌<◌, ◌≤◌, length, take, vec_len}
-use Rattle.std.specs.Prelude.{IsSomeAnd}
-use Rattle.std.specs.Option.{ForSome}
-use Rattle.oc_outside.specs.Held.{file_of}
-use Rattle.oc_outside.specs.declared.reading.TheConstants.{BUFFER}
+use Rattle.std.specs.{Prelude.{IsSomeAnd}, Option.{ForSome}}
+use Rattle.oc_outside.specs.{Held.{file_of}, declared.reading.TheConstants.{BUFFER}}
 use Rattle.oc_outside.proofs.reading.read_file.Given as goal
 
 -- before the first read nobody knows whether the file is there

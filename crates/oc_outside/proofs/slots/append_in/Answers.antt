@@ -1,6 +1,5 @@
 use Rattle.std.proofs.Common.{ap, ◌∙◌, sym, refl, is_some}
-use Rattle.std.proofs.lemmas.Bool.{false≢true}
-use Rattle.std.proofs.lemmas.Result.{on_ok_weaker}
+use Rattle.std.proofs.lemmas.{Bool.{false≢true}, Result.{on_ok_weaker}}
 use Rattle.oc_outside.proofs.SlotLaws.{file_none, file_at, room_at, rooms_kept, extended_at, name_left, room_left}
 use Rattle.oc_outside.proofs.slots.append_in.Goals as goal
 

@@ -1,6 +1,5 @@
 use Rattle.std.proofs.Common.{ap, ◌∙◌, sym, refl, is_none}
-use Rattle.oc_outside.specs.Held.{put}
-use Rattle.oc_outside.specs.Slots.{held_of}
+use Rattle.oc_outside.specs.{Held.{put}, Slots.{held_of}}
 use Rattle.oc_outside.proofs.SlotLaws.{room_none, room_at, held_set, rooms_kept}
 use Rattle.oc_outside.proofs.slots.create_in.Goals as goal
 

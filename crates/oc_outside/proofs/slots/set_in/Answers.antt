@@ -1,7 +1,6 @@
 use Rattle.std.proofs.Common.{ap, ◌∙◌, sym, length, max}
 use Rattle.std.proofs.lemmas.Result.{on_ok_weaker}
-use Rattle.oc_outside.specs.Held.{put}
-use Rattle.oc_outside.specs.Slots.{held_of, place_of}
+use Rattle.oc_outside.specs.{Held.{put}, Slots.{held_of, place_of}}
 use Rattle.oc_outside.proofs.SlotLaws.{held_set, raised_at, held_push, raised_push}
 use Rattle.oc_outside.proofs.slots.set_in.Goals as goal
 

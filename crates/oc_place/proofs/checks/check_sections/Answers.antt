@@ -1,7 +1,6 @@
 use Rattle.std.proofs.Common.{◌∙◌, ◌+◌, ap, arith, length}
 use Rattle.oc_linking.proofs.Upto.{first_upto_stop}
-use Rattle.oc_place.specs.Placings.{section_bad, at_position}
-use Rattle.oc_place.specs.Footprints.{footprint_of}
+use Rattle.oc_place.specs.{Placings.{section_bad, at_position}, Footprints.{footprint_of}}
 use Rattle.oc_place.proofs.checks.check_sections.Goals as goal
 
 pub returns-in-Some : goal.returns-in-Some

@@ -1,7 +1,6 @@
 use Rattle.std.proofs.Common.{◌≡◌, None}
 use Rattle.oc_linking.specs.Numbers.{first_upto}
-use Rattle.oc_place.specs.Placings.{symbol_bad}
-use Rattle.oc_place.specs.Footprints.{footprint_of}
+use Rattle.oc_place.specs.{Placings.{symbol_bad}, Footprints.{footprint_of}}
 use Rattle.oc_place.proofs.checks.check_symbols.Given as goal
 
 -- none so far is at fault

@@ -1,7 +1,6 @@
 use Rattle.std.proofs.Common.{◌∙◌, None, cond, ap, get_or, sym}
 use Rattle.oc_base.specs.Formats.{word_for}
-use Rattle.oc_place.specs.Placings.{at_position, spot_code}
-use Rattle.oc_place.specs.Footprints.{plot_of}
+use Rattle.oc_place.specs.{Placings.{at_position, spot_code}, Footprints.{plot_of}}
 use Rattle.oc_place.proofs.CheckLemmas.{aligned, group_there, section_is}
 use Rattle.oc_place.proofs.checks.section_code.Goals as goal
 

@@ -1,6 +1,5 @@
 use Rattle.std.proofs.Common.{◌∙◌, ap, sym}
-use Rattle.oc_place.specs.Placings.{at_position, given_code, is_lost}
-use Rattle.oc_place.specs.Footprints.{footprint_of}
+use Rattle.oc_place.specs.{Placings.{at_position, given_code, is_lost}, Footprints.{footprint_of}}
 use Rattle.oc_place.proofs.CheckLemmas.{symbol_is}
 use Rattle.oc_place.proofs.checks.symbol_code.Goals as goal
 

@@ -1,7 +1,6 @@
 use Rattle.std.proofs.Common.{sym, subst}
 use Rattle.oc_neutral.specs.Faces.{shown_symbols}
-use Rattle.oc_place.specs.Indexes.{AreListed}
-use Rattle.oc_place.specs.Written.{names_of}
+use Rattle.oc_place.specs.{Indexes.{AreListed}, Written.{names_of}}
 use Rattle.oc_strings.proofs.RepeatLemmas.{named_within}
 use Rattle.oc_place.proofs.IndexLemmas.{in_order, length-names}
 use Rattle.oc_place.proofs.index.index_of.Goals as goal

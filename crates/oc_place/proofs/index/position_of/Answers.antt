@@ -1,6 +1,5 @@
 use Rattle.std.proofs.Common.{rules, sym}
-use Rattle.std.specs.Ordering.{nat_cmp}
-use Rattle.std.specs.Cmp.Lexicographic.{slice_cmp}
+use Rattle.std.specs.{Ordering.{nat_cmp}, Cmp.Lexicographic.{slice_cmp}}
 use Rattle.std.proofs.lemmas.Fn.{always_returns_same}
 use Rattle.oc_place.specs.declared.index.Named.{Named}
 use Rattle.oc_place.proofs.IndexLemmas.{found_at, found_none}

@@ -1,5 +1,4 @@
-use Rattle.oc_place.proofs.FileLemmas.{file_can_link, input_can_link}
-use Rattle.oc_place.proofs.LinkingLemmas.{object_can_link}
+use Rattle.oc_place.proofs.{FileLemmas.{file_can_link, input_can_link}, LinkingLemmas.{object_can_link}}
 use Rattle.oc_place.proofs.laws.placed_can_link.Goals as goal
 
 pub returns-clause-object : goal.returns-clause-object

@@ -1,7 +1,6 @@
 use Rattle.std.proofs.Common.{◌≡◌, ◌++◌, drop}
 use Rattle.std.specs.Option.{option_map}
-use Rattle.oc_place.specs.declared.name_text.Next.TheVariants.{Any}
-use Rattle.oc_place.specs.NameTexts.{name_after}
+use Rattle.oc_place.specs.{declared.name_text.Next.TheVariants.{Any}, NameTexts.{name_after}}
 use Rattle.oc_place.proofs.name_text.unescape.Given as goal
 
 -- with what the rest means the name is that of the text

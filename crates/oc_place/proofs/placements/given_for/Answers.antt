@@ -1,7 +1,6 @@
 use Rattle.std.proofs.Common.{◌∙◌, Some, ap, arith, sym}
 use Rattle.std.proofs.lemmas.List.{take_all}
-use Rattle.oc_place.specs.Placings.{placing_of}
-use Rattle.oc_place.specs.Footprints.{footprint_of}
+use Rattle.oc_place.specs.{Placings.{placing_of}, Footprints.{footprint_of}}
 use Rattle.oc_place.proofs.CheckLemmas.{given_is, placing-lengths, one_more}
 use Rattle.oc_place.proofs.placements.given_for.Goals as goal
 

@@ -1,6 +1,5 @@
 use Rattle.std.proofs.Common.{◌≡◌, take}
-use Rattle.oc_place.specs.Placings.{placing_of}
-use Rattle.oc_place.specs.Footprints.{footprint_of}
+use Rattle.oc_place.specs.{Placings.{placing_of}, Footprints.{footprint_of}}
 use Rattle.oc_place.proofs.placements.given_for.Given as goal
 
 -- what is given so far

@@ -1,7 +1,6 @@
 use Rattle.std.proofs.Common.{◌∙◌, arith}
 use Rattle.std.proofs.lemmas.List.{take_all}
-use Rattle.oc_place.specs.Placings.{placing_of}
-use Rattle.oc_place.specs.Footprints.{footprint_of}
+use Rattle.oc_place.specs.{Placings.{placing_of}, Footprints.{footprint_of}}
 use Rattle.oc_place.proofs.CheckLemmas.{placing-lengths, one_more}
 use Rattle.oc_place.proofs.placements.spots_for.Goals as goal
 

@@ -1,7 +1,6 @@
 use Rattle.std.proofs.Common.{arith}
 use Rattle.std.specs.List.{slice_split}
-use Rattle.oc_place.specs.Footprints.{footprint_of}
-use Rattle.oc_place.specs.Written.{is_newline, notes_of}
+use Rattle.oc_place.specs.{Footprints.{footprint_of}, Written.{is_newline, notes_of}}
 use Rattle.oc_place.proofs.LineLemmas.{still_for, turn_badly, turn_well}
 use Rattle.oc_place.proofs.reading.read_lines.Goals as goal
 

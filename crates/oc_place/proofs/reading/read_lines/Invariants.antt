@@ -1,8 +1,6 @@
 use Rattle.std.proofs.Common.{◌≡◌, ◌+◌, ◌≤◌, length}
 use Rattle.std.specs.List.{slice_split}
-use Rattle.oc_place.specs.Faults.{IsFor}
-use Rattle.oc_place.specs.Footprints.{footprint_of}
-use Rattle.oc_place.specs.Written.{is_newline, no_notes, notes_from}
+use Rattle.oc_place.specs.{Faults.{IsFor}, Footprints.{footprint_of}, Written.{is_newline, no_notes, notes_from}}
 use Rattle.oc_place.proofs.reading.read_lines.Given as goal
 
 -- with what the rest says all is notes

@@ -1,9 +1,8 @@
 -- What is built of a section of data is an object that can be fitted.
 use Rattle.std.proofs.Common.{◌≡◌, refl, rules, sym, subst, ◌∙◌}
 use Rattle.oc_base.specs.Formats.{word_for}
-use Rattle.oc_neutral.specs.Building.{empty_draft}
+use Rattle.oc_neutral.specs.{Building.{empty_draft}, Invariants.{IsComplete}}
 use Rattle.oc_target.specs.Fitted.{CanFit}
-use Rattle.oc_neutral.specs.Invariants.{IsComplete}
 use Rattle.oc_plans.specs.Alone.{elf_of}
 use Rattle.oc_plans.proofs.SectionAlone.{built_alone, can_fit, complete}
 use Rattle.oc_plans.proofs.alone.object_of_data.Goals as goal

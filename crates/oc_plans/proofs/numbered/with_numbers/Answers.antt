@@ -1,7 +1,6 @@
 -- The sections are given back.
 use Rattle.std.proofs.Common.{◌≡◌, List, length, sym, ◌∙◌, ap, subst, arith}
-use Rattle.oc_neutral.specs.declared.section.Section.{Section}
-use Rattle.oc_neutral.specs.Constants.{LieWithin}
+use Rattle.oc_neutral.specs.{declared.section.Section.{Section}, Constants.{LieWithin}}
 use Rattle.oc_neutral.proofs.StoringSteps.{put_back}
 use Rattle.oc_plans.specs.Numbered.{all_with_numbers}
 use Rattle.oc_plans.proofs.numbered.with_numbers.Goals as goal

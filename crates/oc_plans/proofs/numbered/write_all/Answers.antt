@@ -2,8 +2,7 @@
 use Rattle.std.proofs.Common.{ℕ, ◌≤◌, ◌<◌, List, length, get_or, refl, sym, ◌∙◌, ap, subst, arith}
 use Rattle.std.specs.List.{AllByRecursion}
 use Rattle.oc_chains.specs.declared.field.Field.{Field}
-use Rattle.oc_neutral.specs.declared.reloc.Reloc.{Reloc}
-use Rattle.oc_neutral.specs.Constants.{EndsWithin}
+use Rattle.oc_neutral.specs.{declared.reloc.Reloc.{Reloc}, Constants.{EndsWithin}}
 use Rattle.oc_plans.specs.Numbered.{AreAll, Numbering, with_numbers}
 use Rattle.oc_plans.proofs.FieldBytes.{inside_now, inside_next, section_more, sections_done, sections_long}
 use Rattle.oc_plans.proofs.numbered.write_all.Goals as goal

@@ -2,12 +2,11 @@ use Rattle.std.proofs.Common.{◌≡◌, ◌<◌, ℕ, ◌+◌, [], ◌∷◌, �
 use Rattle.std.proofs.lemmas.List.{length-map, map_push, with_items_is}
 use denote.Ref.{Bor}
 use Rattle.oc_base.specs.Strings.{text_of}
-use Rattle.oc_strings.specs.Tables.{texts, capped}
-use Rattle.oc_strings.specs.Order.{AreClosed, AreTailsPlaced, IsLaidOut, name_at}
+use Rattle.oc_strings.specs.{Tables.{texts, capped}, Order.{AreClosed, AreTailsPlaced, IsLaidOut, name_at}}
 use Rattle.oc_strings.proofs.SliceLemmas.{text_at}
 use Rattle.oc_strings.proofs.LayoutLemmas.{last_text, laid_closed, laid_more, laid_none, laid_same, offsets_all, placed_all, spot_test, tops_all}
-use Rattle.oc_strings.proofs.layout.place.Goals as goal
 use Rattle.oc_strings.proofs.layout.place.Goals.{then-spots-i+in_ok-push, else-spots-i}
+use Rattle.oc_strings.proofs.layout.place.Goals as goal
 
 pub loop-i-init : goal.loop-i-init
 unfolding text_of

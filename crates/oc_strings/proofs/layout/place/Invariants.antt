@@ -1,7 +1,6 @@
 use Rattle.std.proofs.Common.{◌≡◌, ◌+◌, length}
 use Rattle.oc_base.specs.Strings.{text_of}
-use Rattle.oc_strings.specs.Tables.{texts, capped}
-use Rattle.oc_strings.specs.Order.{IsLaidOut}
+use Rattle.oc_strings.specs.{Tables.{texts, capped}, Order.{IsLaidOut}}
 use Rattle.oc_strings.proofs.layout.place.Given as goal
 
 abbrev pub invariant-loop-i : goal.invariant-loop-i

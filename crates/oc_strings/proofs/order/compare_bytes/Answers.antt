@@ -1,7 +1,6 @@
 use Rattle.std.proofs.Common.{◌≡◌, refl}
 use Rattle.std.specs.Ordering.{nat_cmp}
-use Rattle.std.proofs.lemmas.Iterator.Adapters.{YieldsList-from_rev_slice}
-use Rattle.std.proofs.lemmas.Iterator.Search.{cmp_from_yields_List}
+use Rattle.std.proofs.lemmas.{Iterator.Adapters.{YieldsList-from_rev_slice}, Iterator.Search.{cmp_from_yields_List}}
 use Rattle.oc_strings.proofs.order.compare_bytes.Goals as goal
 
 pub returns : goal.returns

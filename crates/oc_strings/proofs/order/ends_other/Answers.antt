@@ -1,10 +1,8 @@
 use Rattle.std.proofs.Common.{◌≡◌, ◌≤◌, sym, ◌∙◌, arith, length}
 use Rattle.std.proofs.lemmas.Bool.{eqb-false, false_from_ne_true}
 use Rattle.oc_base.specs.Strings.{ends}
-use Rattle.oc_strings.proofs.EndLemmas.{ends_shares}
-use Rattle.oc_strings.proofs.KeyLemmas.{shares_to}
+use Rattle.oc_strings.proofs.{EndLemmas.{ends_shares}, KeyLemmas.{shares_to}, order.ends_other.Goals.{then-entry-lt-WORD, else-entry-lt-WORD}}
 use Rattle.oc_strings.proofs.order.ends_other.Goals as goal
-use Rattle.oc_strings.proofs.order.ends_other.Goals.{then-entry-lt-WORD, else-entry-lt-WORD}
 
 -- a name of eight bytes and more ends none whose number is another one
 pub returns-else-entry-other : goal.returns-else-entry-other

@@ -1,7 +1,5 @@
 use Rattle.std.proofs.Common.{◌-◌, length, sym, ◌∙◌, arith}
-use Rattle.std.proofs.lemmas.List.{take_rest}
-use Rattle.std.proofs.lemmas.Bool.Decides.{Decides-eqb}
-use Rattle.std.proofs.lemmas.Slice.Eq.{slice_eq-Decides}
+use Rattle.std.proofs.lemmas.{List.{take_rest}, Bool.Decides.{Decides-eqb}, Slice.Eq.{slice_eq-Decides}}
 use Rattle.oc_strings.proofs.order.shares_block.Goals as goal
 
 pub returns-then-b-ge-BLOCK : goal.returns-then-b-ge-BLOCK

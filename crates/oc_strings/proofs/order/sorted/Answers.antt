@@ -1,10 +1,8 @@
 use Rattle.std.proofs.Common.{rules, arith}
 use Rattle.std.proofs.lemmas.List.Sorted.{ranks_by, answers_always}
 use Rattle.std.specs.Ordering.{is_lt}
-use Rattle.oc_strings.specs.declared.order.Entry.{Entry}
-use Rattle.oc_strings.specs.Keys.{full_order}
-use Rattle.oc_strings.proofs.KeyLemmas.{full_order_total}
-use Rattle.oc_strings.proofs.EntryLemmas.{apart_moved, ascending, keyed_moved, numbered, sooner_first}
+use Rattle.oc_strings.specs.{declared.order.Entry.{Entry}, Keys.{full_order}}
+use Rattle.oc_strings.proofs.{KeyLemmas.{full_order_total}, EntryLemmas.{apart_moved, ascending, keyed_moved, numbered, sooner_first}}
 use Rattle.oc_strings.proofs.order.sorted.Goals as goal
 
 pub returns-clause-keyed : goal.returns-clause-keyed

@@ -1,6 +1,5 @@
 use Rattle.std.proofs.Common.{◌∙◌}
-use Rattle.oc_strings.proofs.EndLemmas.{same_ends}
-use Rattle.oc_strings.proofs.OrderLemmas.{same_tails}
+use Rattle.oc_strings.proofs.{EndLemmas.{same_ends}, OrderLemmas.{same_tails}}
 use Rattle.oc_strings.proofs.order.without_words.Goals as goal
 
 pub loop-a_left-preserved : goal.loop-a_left-preserved

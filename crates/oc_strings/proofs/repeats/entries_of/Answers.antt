@@ -3,8 +3,7 @@ use Rattle.std.proofs.Common.{ℕ, ◌∷◌, ◌++◌, [], Some, None, sym, ◌
 use Rattle.std.specs.Option.{option_copied}
 use Rattle.std.proofs.lemmas.List.{append-nil}
 use Rattle.oc_strings.specs.Repeats.{names_of}
-use Rattle.oc_strings.proofs.RepeatSorting.{entries_more, named_by, unnamed_by}
-use Rattle.oc_strings.proofs.repeats.entries_of.Goals.{in-Some+in_ok-push, in_default}
+use Rattle.oc_strings.proofs.{RepeatSorting.{entries_more, named_by, unnamed_by}, repeats.entries_of.Goals.{in-Some+in_ok-push, in_default}}
 use Rattle.oc_strings.proofs.repeats.entries_of.Goals as goal
 
 pub loop-at-preserved : goal.loop-at-preserved

@@ -1,12 +1,9 @@
 -- Each entry is compared with the one before it.
 use Rattle.std.proofs.Common.{◌≡◌, ◌-◌, ◌<◌, ◌≤◌, arith, sym, ◌∙◌, ap, length, get_or, subst, ◌+◌, Some}
-use Rattle.std.specs.List.Sorted.{IsPermutation}
-use Rattle.std.specs.Option.{option_copied}
+use Rattle.std.specs.{List.Sorted.{IsPermutation}, Option.{option_copied}}
 use Rattle.std.proofs.lemmas.List.{get_or_default, length-map}
-use Rattle.oc_strings.specs.declared.repeats.SortKey.{SortKey}
-use Rattle.oc_strings.specs.Repeats.{names_of, entries_of}
-use Rattle.oc_strings.proofs.RepeatSorting.{found_first, least_kept, least_more, IsLeast}
-use Rattle.oc_strings.proofs.repeats.first_repeat.Goals.{then-are_tied, else-are_tied}
+use Rattle.oc_strings.specs.{declared.repeats.SortKey.{SortKey}, Repeats.{names_of, entries_of}}
+use Rattle.oc_strings.proofs.{RepeatSorting.{found_first, least_kept, least_more, IsLeast}, repeats.first_repeat.Goals.{then-are_tied, else-are_tied}}
 use Rattle.oc_strings.proofs.repeats.first_repeat.Goals as goal
 
 pub loop-i-preserved : goal.loop-i-preserved

@@ -1,10 +1,8 @@
 -- The closure answers by the order.
 use Rattle.std.proofs.Common.{rules}
 use Rattle.std.specs.Ordering.{is_lt}
-use Rattle.std.proofs.lemmas.List.Sorted.{ranks_by}
-use Rattle.std.proofs.lemmas.Fn.{always_returns_same}
-use Rattle.oc_strings.specs.declared.repeats.SortKey.{SortKey}
-use Rattle.oc_strings.specs.Repeats.{names_of, order}
+use Rattle.std.proofs.lemmas.{List.Sorted.{ranks_by}, Fn.{always_returns_same}}
+use Rattle.oc_strings.specs.{declared.repeats.SortKey.{SortKey}, Repeats.{names_of, order}}
 use Rattle.oc_strings.proofs.RepeatSorting.{order_total}
 use Rattle.oc_strings.proofs.repeats.sort.Goals as goal
 

@@ -1,7 +1,5 @@
 use Rattle.std.proofs.Common.{sym, ◌∙◌, arith}
-use Rattle.std.proofs.lemmas.Bool.Decides.{Decides-eqb}
-use Rattle.std.proofs.lemmas.List.{length-map}
-use Rattle.std.proofs.lemmas.Slice.Eq.{slice_eq-Decides}
+use Rattle.std.proofs.lemmas.{Bool.Decides.{Decides-eqb}, List.{length-map}, Slice.Eq.{slice_eq-Decides}}
 use Rattle.oc_strings.specs.Inside.{name_in}
 use Rattle.oc_strings.proofs.SearchLemmas.{given_is}
 use Rattle.oc_strings.proofs.search.is_given_at.Goals as goal

@@ -1,13 +1,9 @@
 use Rattle.std.proofs.Common.{◌≡◌, ◌<◌, ◌-◌, ◌+◌, ℕ, List, [], true, false, Option, Some, None, length, get_or, set, refl, sym, ◌∙◌, ap, subst, arith}
-use Rattle.std.proofs.lemmas.List.{length-map, length-set}
-use Rattle.std.proofs.lemmas.Bool.{both_ways}
-use Rattle.std.proofs.lemmas.Option.{same_Some}
+use Rattle.std.proofs.lemmas.{List.{length-map, length-set}, Bool.{both_ways}, Option.{same_Some}}
 use Rattle.std.specs.Option.{is_none, is_some}
 use denote.Ref.{Bor}
-use Rattle.oc_strings.specs.Tables.{capped, texts}
-use Rattle.oc_strings.specs.Order.{name_at}
-use Rattle.oc_strings.proofs.SliceLemmas.{text_at}
-use Rattle.oc_strings.proofs.WalkLemmas.{IsWalk, one_less, walk_none, walk_more, walk_stop, walk_end, walk_shorter, walk_within}
+use Rattle.oc_strings.specs.{Tables.{capped, texts}, Order.{name_at}}
+use Rattle.oc_strings.proofs.{SliceLemmas.{text_at}, WalkLemmas.{IsWalk, one_less, walk_none, walk_more, walk_stop, walk_end, walk_shorter, walk_within}}
 use Rattle.oc_strings.proofs.spots.place_tails.Goals as goal
 
 abbrev none : Bor (List ℕ)

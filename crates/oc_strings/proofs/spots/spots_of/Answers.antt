@@ -1,11 +1,8 @@
 use Rattle.std.proofs.Common.{◌≡◌, ◌<◌, ℕ, Bool, not, List, Option, None, length, get_or, set, sym, ◌∙◌, ap, subst, arith, ⊎_elim}
-use Rattle.std.proofs.lemmas.List.{get_or_default, get_or-set_same, get_or-set_other, length-map, length-set}
-use Rattle.std.proofs.lemmas.Bool.{cases_eq}
+use Rattle.std.proofs.lemmas.{List.{get_or_default, get_or-set_same, get_or-set_other, length-map, length-set}, Bool.{cases_eq}}
 use Rattle.std.specs.Option.{option_map}
 use denote.Ref.{Bor}
-use Rattle.oc_strings.specs.declared.spots.Spot.{Spot}
-use Rattle.oc_strings.specs.Order.{AreTails, ends_next, number_at, spot_of, names_of}
-use Rattle.oc_strings.specs.Tables.{texts}
+use Rattle.oc_strings.specs.{declared.spots.Spot.{Spot}, Order.{AreTails, ends_next, number_at, spot_of, names_of}, Tables.{texts}}
 use Rattle.oc_strings.proofs.EntryLemmas.{count_of_names, none, number_is, number_within}
 use Rattle.oc_strings.proofs.spots.spots_of.Goals as goal
 

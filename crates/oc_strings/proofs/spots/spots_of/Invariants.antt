@@ -1,6 +1,5 @@
 use Rattle.std.proofs.Common.{◌≡◌, ℕ, ◌<◌, length, get_or}
-use Rattle.oc_strings.specs.declared.spots.Spot.{Spot}
-use Rattle.oc_strings.specs.Order.{number_at, spot_of}
+use Rattle.oc_strings.specs.{declared.spots.Spot.{Spot}, Order.{number_at, spot_of}}
 use Rattle.oc_strings.proofs.spots.spots_of.Given as goal
 
 abbrev pub invariant-loop-k : goal.invariant-loop-k

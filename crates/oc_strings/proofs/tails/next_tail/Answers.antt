@@ -1,7 +1,6 @@
 use Rattle.std.proofs.Common.{None, length, get_or, sym, ◌∙◌, subst, arith}
 use Rattle.oc_strings.specs.Order.{names_of}
-use Rattle.oc_strings.proofs.EntryLemmas.{count_of_names}
-use Rattle.oc_strings.proofs.TailLemmas.{Beyond, tail_step}
+use Rattle.oc_strings.proofs.{EntryLemmas.{count_of_names}, TailLemmas.{Beyond, tail_step}}
 use Rattle.oc_strings.proofs.tails.next_tail.Goals as goal
 
 pub loop-candidate-preserved : goal.loop-candidate-preserved

@@ -1,13 +1,10 @@
 use Rattle.std.proofs.Common.{◌≡◌, ◌≤◌, ◌∙◌, List, Some, length, slice_get, subst, sym, ap, arith}
-use Rattle.oc_neutral.specs.declared.symbol.Symbol.{Symbol}
-use Rattle.oc_neutral.specs.Dressing.{realigned}
+use Rattle.oc_neutral.specs.{declared.symbol.Symbol.{Symbol}, Dressing.{realigned}, Invariants.{IsAlign}, Objects.{Object}}
 use Rattle.oc_target.specs.Fitted.{fitted_binding, fitted_symbol}
-use Rattle.oc_neutral.specs.Invariants.{IsAlign}
-use Rattle.oc_neutral.specs.Objects.{Object}
 use Rattle.oc_neutral.proofs.Partly.{length-partly, partly_all}
 use Rattle.oc_target.proofs.Dressing.{aligned_at, common_aligned, common_more, map_any, other_binding, other_more, upto}
-use Rattle.oc_target.proofs.dress.align_commons.Goals as goal
 use Rattle.oc_target.proofs.dress.align_commons.Goals.{in-Common, in_default}
+use Rattle.oc_target.proofs.dress.align_commons.Goals as goal
 
 pub symbol-requires : goal.symbol-requires
 symbol-requires c =

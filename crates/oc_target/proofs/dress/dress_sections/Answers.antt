@@ -1,14 +1,8 @@
 use Rattle.std.proofs.Common.{◌≡◌, ℕ, ◌+◌, ◌∙◌, List, [], Some, length, get_or, slice_get, subst, sym, ap, arith}
 use Rattle.std.proofs.lemmas.List.{take_all}
-use Rattle.oc_neutral.specs.declared.section.Section.{Section}
-use Rattle.oc_neutral.specs.Dressing.{dressed}
-use Rattle.oc_neutral.specs.HomeNames.{output_tag}
-use Rattle.oc_neutral.specs.Invariants.{IsAlign}
-use Rattle.oc_neutral.specs.Objects.{Object}
+use Rattle.oc_neutral.specs.{declared.section.Section.{Section}, Dressing.{dressed}, HomeNames.{output_tag}, Invariants.{IsAlign}, Objects.{Object}}
 use Rattle.oc_target.specs.Dress.{dressed_at}
-use Rattle.oc_target.proofs.Aligning.{align_is}
-use Rattle.oc_target.proofs.Dressing.{dressed_more, from, from_long, name_taken}
-use Rattle.oc_target.proofs.Lately.{lately_none}
+use Rattle.oc_target.proofs.{Aligning.{align_is}, Dressing.{dressed_more, from, from_long, name_taken}, Lately.{lately_none}}
 use Rattle.oc_target.proofs.dress.dress_sections.Goals as goal
 
 pub loop-name-init : goal.loop-name-init

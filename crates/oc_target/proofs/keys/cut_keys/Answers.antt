@@ -1,7 +1,6 @@
 use Rattle.std.proofs.Common.{◌≡◌, ◌≤◌, ◌++◌, [], ◌∷◌, false, length, map, get_or, ◌∙◌, ap, sym, arith}
 use Rattle.std.proofs.lemmas.List.{take_all}
-use Rattle.oc_neutral.specs.declared.group.Group.{Group}
-use Rattle.oc_neutral.specs.KindRules.{has_nul}
+use Rattle.oc_neutral.specs.{declared.group.Group.{Group}, KindRules.{has_nul}}
 use Rattle.oc_target.proofs.Cut.{cut_next, cut_at}
 use Rattle.oc_target.proofs.keys.cut_keys.Goals as goal
 

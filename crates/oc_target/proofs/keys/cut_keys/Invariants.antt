@@ -1,7 +1,6 @@
 use Rattle.std.proofs.Common.{◌≡◌, map}
 use Rattle.std.specs.Prelude.{take}
-use Rattle.oc_neutral.specs.declared.group.Group.{Group}
-use Rattle.oc_neutral.specs.KindRules.{has_nul}
+use Rattle.oc_neutral.specs.{declared.group.Group.{Group}, KindRules.{has_nul}}
 use Rattle.oc_target.proofs.keys.cut_keys.Given as goal
 
 -- the keys before are told of

@@ -1,11 +1,8 @@
 use Rattle.std.proofs.Common.{◌<◌, ◌≤◌, ◌&&◌, length, ◌∙◌, ap, sym, subst, arith, Bool, false, inl, inr}
 use Rattle.std.specs.List.{list_any}
-use Rattle.std.proofs.lemmas.Bool.{cases_lt}
-use Rattle.std.proofs.lemmas.List.{take_all, get_or_past}
-use Rattle.oc_neutral.specs.declared.symbol.Symbol.{Symbol}
-use Rattle.oc_neutral.specs.KeySymbols.{lies_in, is_key_name}
-use Rattle.oc_target.proofs.Keyed.{past_keyed}
-use Rattle.oc_target.proofs.Steps.{any_more}
+use Rattle.std.proofs.lemmas.{Bool.{cases_lt}, List.{take_all, get_or_past}}
+use Rattle.oc_neutral.specs.{declared.symbol.Symbol.{Symbol}, KeySymbols.{lies_in, is_key_name}}
+use Rattle.oc_target.proofs.{Keyed.{past_keyed}, Steps.{any_more}}
 use Rattle.oc_target.proofs.keys.keyed_groups.Goals as goal
 
 pub loop-k-preserved : goal.loop-k-preserved

@@ -1,8 +1,6 @@
 use Rattle.std.proofs.Common.{◌≡◌, ℕ, ◌<◌, ◌&&◌, false, length}
-use Rattle.std.specs.Prelude.{slice_index_or, take}
-use Rattle.std.specs.List.{list_any}
-use Rattle.oc_neutral.specs.declared.symbol.Symbol.{Symbol}
-use Rattle.oc_neutral.specs.KeySymbols.{lies_in, is_key_name}
+use Rattle.std.specs.{Prelude.{slice_index_or, take}, List.{list_any}}
+use Rattle.oc_neutral.specs.{declared.symbol.Symbol.{Symbol}, KeySymbols.{lies_in, is_key_name}}
 use Rattle.oc_target.proofs.keys.keyed_groups.Given as goal
 
 -- the groups whose key symbol is among those before are marked

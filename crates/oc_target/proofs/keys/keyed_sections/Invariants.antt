@@ -1,6 +1,5 @@
 use Rattle.std.proofs.Common.{◌≡◌, ℕ, ◌<◌, false, length}
-use Rattle.std.specs.Prelude.{slice_index_or, take}
-use Rattle.std.specs.List.{list_any}
+use Rattle.std.specs.{Prelude.{slice_index_or, take}, List.{list_any}}
 use Rattle.oc_neutral.specs.KeySymbols.{is_key_at}
 use Rattle.oc_target.proofs.keys.keyed_sections.Given as goal
 

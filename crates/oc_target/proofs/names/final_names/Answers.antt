@@ -1,9 +1,7 @@
 use Rattle.std.proofs.Common.{rules, ◌≡◌, ◌+◌, ◌++◌, ◌∙◌, ap, sym, [], ◌∷◌, arith}
 use Rattle.std.proofs.lemmas.List.{length-append}
-use Rattle.oc_neutral.specs.HomeNames.{final_name, final_names}
-use Rattle.oc_neutral.specs.Mach.Family.{numbered_name}
-use Rattle.oc_target.proofs.Steps.{more_done}
-use Rattle.oc_target.proofs.Naming.{wanted_from, wanted_step, has_section}
+use Rattle.oc_neutral.specs.{HomeNames.{final_name, final_names}, Mach.Family.{numbered_name}}
+use Rattle.oc_target.proofs.{Steps.{more_done}, Naming.{wanted_from, wanted_step, has_section}}
 use Rattle.oc_target.proofs.names.final_names.Goals as goal
 
 pub loop-k-preserved : goal.loop-k-preserved

@@ -1,6 +1,5 @@
 use Rattle.std.proofs.Common.{◌≡◌, ◌++◌, [], length}
-use Rattle.oc_neutral.specs.HomeNames.{final_names}
-use Rattle.oc_neutral.specs.Mach.Family.{numbered_name}
+use Rattle.oc_neutral.specs.{HomeNames.{final_names}, Mach.Family.{numbered_name}}
 use Rattle.oc_target.proofs.Naming.{wanted_from}
 use Rattle.oc_target.proofs.names.final_names.Given as goal
 

@@ -1,6 +1,5 @@
 use Rattle.std.proofs.Common.{◌+◌, ◌∙◌, ap, sym, ◌∷◌, arith}
-use Rattle.oc_target.proofs.Steps.{more_done}
-use Rattle.oc_target.proofs.Naming.{wanted_from, wanted_step, has_section}
+use Rattle.oc_target.proofs.{Steps.{more_done}, Naming.{wanted_from, wanted_step, has_section}}
 use Rattle.oc_target.proofs.names.wanted_names.Goals as goal
 
 pub loop-k-preserved : goal.loop-k-preserved

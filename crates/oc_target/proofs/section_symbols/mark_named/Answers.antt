@@ -1,7 +1,6 @@
 use Rattle.std.proofs.Common.{◌<◌, ◌&&◌, ◌||◌, Bool, false, ◌∙◌, ap, sym, subst}
 use Rattle.std.specs.Prelude.{nat_eq, slice_index_or}
-use Rattle.oc_neutral.specs.Mach.SelfReferences.{is_long_distance, is_section}
-use Rattle.oc_neutral.specs.Normal.{takes_section}
+use Rattle.oc_neutral.specs.{Mach.SelfReferences.{is_long_distance, is_section}, Normal.{takes_section}}
 use Rattle.oc_target.proofs.Marking.{marked_thrice}
 use Rattle.oc_target.proofs.section_symbols.mark_named.Goals as goal
 

@@ -1,9 +1,7 @@
 use Rattle.std.proofs.Common.{◌≡◌, ◌<◌, length, refl, ◌∙◌, ap, sym, arith}
-use Rattle.std.specs.Prelude.{slice_index_or, false}
-use Rattle.std.specs.List.{count_by, range_with_len}
+use Rattle.std.specs.{Prelude.{slice_index_or, false}, List.{count_by, range_with_len}}
 use Rattle.oc_neutral.specs.Mach.SectionSymbols.{needs_section_symbol}
-use Rattle.oc_target.proofs.Counting.{numbered_next}
-use Rattle.oc_target.proofs.Marking.{needed_counted}
+use Rattle.oc_target.proofs.{Counting.{numbered_next}, Marking.{needed_counted}}
 use Rattle.oc_target.proofs.section_symbols.needed_count.Goals as goal
 
 pub loop-k-preserved : goal.loop-k-preserved

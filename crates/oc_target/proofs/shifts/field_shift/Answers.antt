@@ -1,6 +1,5 @@
 use Rattle.std.proofs.Common.{rules, ◌≡◌, false, Some, ◌∙◌, ap, sym, w64, to_z, of_z}
-use Rattle.oc_neutral.specs.Families.{family_of}
-use Rattle.oc_neutral.specs.Spelling.{written_row}
+use Rattle.oc_neutral.specs.{Families.{family_of}, Spelling.{written_row}}
 use Rattle.oc_target.specs.Tables.{meant}
 use Rattle.oc_target.proofs.Shifting.{shift_written}
 use Rattle.oc_target.proofs.shifts.field_shift.Goals as goal

@@ -1,7 +1,6 @@
 use Rattle.std.proofs.Common.{refl, ◌∙◌, ap}
 use Rattle.std.specs.Prelude.{not}
-use Rattle.oc_neutral.specs.declared.group.Group.{Group}
-use Rattle.oc_neutral.specs.Building.{has_name}
+use Rattle.oc_neutral.specs.{declared.group.Group.{Group}, Building.{has_name}}
 use Rattle.oc_target.proofs.Counting.{counted_next}
 use Rattle.oc_target.proofs.signatures.missing_keys.Goals as goal
 

@@ -1,8 +1,6 @@
 use Rattle.std.proofs.Common.{◌≡◌, ◌≤◌}
-use Rattle.std.specs.Prelude.{take, not}
-use Rattle.std.specs.List.{count_by}
-use Rattle.oc_neutral.specs.declared.group.Group.{Group}
-use Rattle.oc_neutral.specs.Building.{has_name}
+use Rattle.std.specs.{Prelude.{take, not}, List.{count_by}}
+use Rattle.oc_neutral.specs.{declared.group.Group.{Group}, Building.{has_name}}
 use Rattle.oc_target.proofs.signatures.missing_keys.Given as goal
 
 -- those before are counted

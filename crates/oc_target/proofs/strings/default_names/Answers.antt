@@ -1,8 +1,7 @@
 use Rattle.std.proofs.Common.{◌≤◌, length, ap, arith}
 use Rattle.std.specs.List.{flat_map}
 use Rattle.std.proofs.lemmas.List.{drop_all}
-use Rattle.oc_neutral.specs.declared.symbol.Symbol.{Symbol}
-use Rattle.oc_neutral.specs.Coff.Strings.{defaults_of}
+use Rattle.oc_neutral.specs.{declared.symbol.Symbol.{Symbol}, Coff.Strings.{defaults_of}}
 use Rattle.oc_target.proofs.Giving.{more_given, all_given, flat_step}
 use Rattle.oc_target.proofs.strings.default_names.Goals as goal
 

@@ -1,8 +1,6 @@
 use Rattle.std.proofs.Common.{◌≡◌, ◌++◌}
-use Rattle.std.specs.Prelude.{drop}
-use Rattle.std.specs.List.{flat_map}
-use Rattle.oc_neutral.specs.declared.symbol.Symbol.{Symbol}
-use Rattle.oc_neutral.specs.Coff.Strings.{defaults_of}
+use Rattle.std.specs.{Prelude.{drop}, List.{flat_map}}
+use Rattle.oc_neutral.specs.{declared.symbol.Symbol.{Symbol}, Coff.Strings.{defaults_of}}
 use Rattle.oc_target.proofs.strings.default_names.Given as goal
 
 -- the names so far, and those that are left

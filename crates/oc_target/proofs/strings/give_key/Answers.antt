@@ -1,11 +1,8 @@
 use Rattle.std.proofs.Common.{rules, ◌≡◌, true, false, cond, [], ◌∷◌, ◌++◌, ◌∙◌, ap, sym}
-use Rattle.std.specs.Prelude.{filter}
-use Rattle.std.specs.Option.{option_map_or}
-use Rattle.std.proofs.lemmas.List.{append-nil}
-use Rattle.std.proofs.lemmas.Result.{on_ok_weaker}
+use Rattle.std.specs.{Prelude.{filter}, Option.{option_map_or}}
+use Rattle.std.proofs.lemmas.{List.{append-nil}, Result.{on_ok_weaker}}
 use Rattle.oc_strings.specs.Tables.{texts}
-use Rattle.oc_neutral.specs.Coff.Strings.{is_long, names_where}
-use Rattle.oc_neutral.specs.KeySymbols.{is_key_at}
+use Rattle.oc_neutral.specs.{Coff.Strings.{is_long, names_where}, KeySymbols.{is_key_at}}
 use Rattle.oc_target.specs.Found.{held}
 use Rattle.oc_target.proofs.KeyPlaces.{key_names, keys_at}
 use Rattle.oc_target.proofs.strings.give_key.Goals as goal

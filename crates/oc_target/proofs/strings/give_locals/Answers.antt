@@ -1,8 +1,7 @@
 use Rattle.std.proofs.Common.{◌≤◌, ◌&&◌, Bool, length, ap, arith}
 use Rattle.std.proofs.lemmas.List.{drop_all}
 use Rattle.oc_linking.specs.Parts.{is_local}
-use Rattle.oc_neutral.specs.declared.symbol.Symbol.{Symbol}
-use Rattle.oc_neutral.specs.WrittenSymbols.{is_written}
+use Rattle.oc_neutral.specs.{declared.symbol.Symbol.{Symbol}, WrittenSymbols.{is_written}}
 use Rattle.oc_target.proofs.Giving.{more_given, all_given, long_names, long_step}
 use Rattle.oc_target.proofs.strings.give_locals.Goals as goal
 

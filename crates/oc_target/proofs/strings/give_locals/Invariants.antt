@@ -2,8 +2,7 @@ use Rattle.std.proofs.Common.{◌≡◌, ◌&&◌, ◌++◌}
 use Rattle.std.specs.Prelude.{drop}
 use Rattle.oc_linking.specs.Parts.{is_local}
 use Rattle.oc_strings.specs.Tables.{texts}
-use Rattle.oc_neutral.specs.declared.symbol.Symbol.{Symbol}
-use Rattle.oc_neutral.specs.WrittenSymbols.{is_written}
+use Rattle.oc_neutral.specs.{declared.symbol.Symbol.{Symbol}, WrittenSymbols.{is_written}}
 use Rattle.oc_target.proofs.Giving.{long_names}
 use Rattle.oc_target.proofs.strings.give_locals.Given as goal
 

@@ -2,8 +2,7 @@ use Rattle.std.proofs.Common.{◌≤◌, ◌&&◌, Bool, length, ap, arith}
 use Rattle.std.specs.Prelude.{not}
 use Rattle.std.proofs.lemmas.List.{drop_all}
 use Rattle.oc_linking.specs.Parts.{is_local}
-use Rattle.oc_neutral.specs.declared.symbol.Symbol.{Symbol}
-use Rattle.oc_neutral.specs.KeySymbols.{is_key}
+use Rattle.oc_neutral.specs.{declared.symbol.Symbol.{Symbol}, KeySymbols.{is_key}}
 use Rattle.oc_target.proofs.Giving.{more_given, all_given, long_names, long_step}
 use Rattle.oc_target.proofs.strings.give_others.Goals as goal
 

@@ -1,12 +1,10 @@
 use Rattle.std.proofs.Common.{◌≡◌, ◌≤◌, Some, length, refl, ap, subst, arith}
 use Rattle.std.specs.Prelude.{slice_get, filter}
-use Rattle.std.proofs.lemmas.List.{take_all, drop_all}
-use Rattle.std.proofs.lemmas.Option.{slice_get_read}
+use Rattle.std.proofs.lemmas.{List.{take_all, drop_all}, Option.{slice_get_read}}
 use Rattle.oc_strings.specs.Tables.{texts}
 use Rattle.oc_neutral.specs.Coff.Strings.{is_tabled}
 use Rattle.oc_target.specs.Places.{HavePlaces}
-use Rattle.oc_target.proofs.Giving.{more_given, all_given, tabled_step}
-use Rattle.oc_target.proofs.PlaceLemmas.{places_step}
+use Rattle.oc_target.proofs.{Giving.{more_given, all_given, tabled_step}, PlaceLemmas.{places_step}}
 use Rattle.oc_target.proofs.strings.give_sections.Goals as goal
 
 pub loop-name-preserved : goal.loop-name-preserved

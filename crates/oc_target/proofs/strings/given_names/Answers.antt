@@ -1,11 +1,9 @@
 use Rattle.std.proofs.Common.{rules, ◌≡◌, [], ◌++◌, ◌∙◌, ap, sym, subst}
 use Rattle.std.specs.List.{filter}
 use Rattle.oc_strings.specs.Tables.{texts}
-use Rattle.oc_neutral.specs.Coff.Strings.{is_long, is_tabled}
-use Rattle.oc_neutral.specs.Families.{family_of}
+use Rattle.oc_neutral.specs.{Coff.Strings.{is_long, is_tabled}, Families.{family_of}}
 use Rattle.oc_target.specs.Places.{HavePlaces}
-use Rattle.oc_target.proofs.Giving.{strings_whole}
-use Rattle.oc_target.proofs.PlaceLemmas.{places_more, places_whole}
+use Rattle.oc_target.proofs.{Giving.{strings_whole}, PlaceLemmas.{places_more, places_whole}}
 use Rattle.oc_target.proofs.strings.given_names.Goals as goal
 
 pub returns : goal.returns

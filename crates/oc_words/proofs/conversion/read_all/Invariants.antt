@@ -1,7 +1,6 @@
 use Rattle.std.proofs.Common.{◌≡◌, take, None}
 use Rattle.oc_linking.specs.Numbers.{first_upto}
-use Rattle.oc_words.specs.Jobs.{bad_at}
-use Rattle.oc_words.specs.Readings.{IsReadingOf}
+use Rattle.oc_words.specs.{Jobs.{bad_at}, Readings.{IsReadingOf}}
 use Rattle.oc_words.proofs.conversion.read_all.Given as goal
 
 -- no word so far is at fault, and what was taken up is what they say

@@ -1,7 +1,5 @@
 use Rattle.std.proofs.Common.{◌≡◌, ℕ, sym, ◌∙◌, ap, subst, IfOk, IfErr, Ok}
-use Rattle.oc_words.specs.Faults.{IsFaultOf}
-use Rattle.oc_words.specs.Jobs.{conversion_of, converted}
-use Rattle.oc_words.specs.Readings.{listed, listed_target}
+use Rattle.oc_words.specs.{Faults.{IsFaultOf}, Jobs.{conversion_of, converted}, Readings.{listed, listed_target}}
 use Rattle.oc_words.proofs.ReadingLaws.{conversion_of-read}
 use Rattle.oc_words.proofs.conversion.read_conversion.Goals as goal
 

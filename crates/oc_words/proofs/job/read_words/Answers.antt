@@ -1,6 +1,5 @@
 use Rattle.std.proofs.Common.{◌≡◌, drop, sym, subst, IfOk, IfErr, Ok, rules}
-use Rattle.oc_words.specs.Faults.{IsFaultOf}
-use Rattle.oc_words.specs.Jobs.{job_of, making_of}
+use Rattle.oc_words.specs.{Faults.{IsFaultOf}, Jobs.{job_of, making_of}}
 use Rattle.oc_words.proofs.ReadingLaws.{job_of-made}
 use Rattle.oc_words.proofs.job.read_words.Goals as goal
 

@@ -1,7 +1,6 @@
 use Rattle.std.proofs.Common.{◌∙◌, subst, sym}
 use Rattle.oc_target.specs.Fitted.{CanFit}
-use Rattle.tests_object.proofs.ElfObjects.{can_fit}
-use Rattle.tests_object.proofs.SmallObjects.{bare_complete}
+use Rattle.tests_object.proofs.{ElfObjects.{can_fit}, SmallObjects.{bare_complete}}
 use Rattle.tests_object.proofs.express.object.Goals as goal
 
 pub finish-requires : goal.finish-requires

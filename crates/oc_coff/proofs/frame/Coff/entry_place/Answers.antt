@@ -1,8 +1,6 @@
 -- The entries begin where the file header says.
-use Rattle.oc_coff.specs.Files.{CoffFile, tables_in}
+use Rattle.oc_coff.specs.{Files.{CoffFile, tables_in}, Forms.{symbol_size}, declared.file_header.FileHeader.{FileHeader}}
 use Rattle.std.proofs.Common.{◌+◌, ◌*◌, ◌∙◌, ap, arith}
-use Rattle.oc_coff.specs.Forms.{symbol_size}
-use Rattle.oc_coff.specs.declared.file_header.FileHeader.{FileHeader}
 use Rattle.oc_coff.proofs.HeadLemmas.{entries_begin}
 use Rattle.oc_coff.proofs.frame.Coff.entry_place.Goals as goal
 

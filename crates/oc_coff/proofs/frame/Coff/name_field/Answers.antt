@@ -1,9 +1,7 @@
 -- The name lies in the file.
 use Rattle.std.proofs.Common.{ℕ, ◌+◌, ◌*◌, ◌<◌, ◌≤◌, length, take, drop, length-drop, sym, ◌∙◌, ap, subst, arith}
 use Rattle.std.proofs.lemmas.List.{length-take-le}
-use Rattle.oc_coff.specs.Forms.{symbol_size}
-use Rattle.oc_coff.specs.Tables.{slot_at}
-use Rattle.oc_coff.specs.Files.{CoffFile, tables_in}
+use Rattle.oc_coff.specs.{Forms.{symbol_size}, Tables.{slot_at}, Files.{CoffFile, tables_in}}
 use Rattle.oc_coff.proofs.HeadLemmas.{entry_lies, wide_entry, name_begins}
 use Rattle.oc_coff.proofs.frame.Coff.name_field.Goals as goal
 

@@ -1,9 +1,6 @@
 -- The header lies in the file.
 use Rattle.std.proofs.Common.{ℕ, ◌+◌, ◌*◌, length, Some, sym, ◌∙◌, ap, arith}
-use Rattle.oc_coff.specs.declared.section_header.SectionHeader.{SectionHeader}
-use Rattle.oc_coff.specs.Forms.{header_size}
-use Rattle.oc_coff.specs.SectionHeader.{section_header_at}
-use Rattle.oc_coff.specs.Tables.{section_table}
+use Rattle.oc_coff.specs.{declared.section_header.SectionHeader.{SectionHeader}, Forms.{header_size}, SectionHeader.{section_header_at}, Tables.{section_table}}
 use Rattle.oc_coff.specs.Files.{CoffFile, tables_in}
 use Rattle.oc_coff.proofs.HeadLemmas.{headed, length-sections, section_there}
 use Rattle.oc_coff.proofs.frame.Coff.section.Goals as goal

@@ -1,9 +1,6 @@
 -- The entry lies in the file.
 use Rattle.std.proofs.Common.{◌+◌, ◌*◌, ◌<◌, length, sym, ◌∙◌, ap, subst, arith}
-use Rattle.oc_coff.specs.Forms.{symbol_size}
-use Rattle.oc_coff.specs.SectionAux.{section_aux_at}
-use Rattle.oc_coff.specs.Tables.{slot_at}
-use Rattle.oc_coff.specs.Files.{CoffFile, tables_in}
+use Rattle.oc_coff.specs.{Forms.{symbol_size}, SectionAux.{section_aux_at}, Tables.{slot_at}, Files.{CoffFile, tables_in}}
 use Rattle.oc_coff.proofs.HeadLemmas.{entry_lies}
 use Rattle.oc_coff.proofs.frame.Coff.section_aux.Goals as goal
 

@@ -1,7 +1,6 @@
 -- The headers are as many as the file header says.
-use Rattle.oc_coff.specs.Files.{CoffFile, tables_in}
+use Rattle.oc_coff.specs.{Files.{CoffFile, tables_in}, declared.file_header.FileHeader.{FileHeader}}
 use Rattle.std.proofs.Common.{length, sym, ◌∙◌, ap}
-use Rattle.oc_coff.specs.declared.file_header.FileHeader.{FileHeader}
 use Rattle.oc_coff.proofs.HeadLemmas.{length-sections}
 use Rattle.oc_coff.proofs.frame.Coff.section_count.Goals as goal
 

@@ -1,9 +1,6 @@
 -- The entry lies in the file.
 use Rattle.std.proofs.Common.{◌+◌, ◌*◌, ◌<◌, length, sym, ◌∙◌, ap, subst, arith}
-use Rattle.oc_coff.specs.Forms.{symbol_size}
-use Rattle.oc_coff.specs.SymbolEntry.{symbol_at}
-use Rattle.oc_coff.specs.Tables.{slot_at}
-use Rattle.oc_coff.specs.Files.{CoffFile, tables_in}
+use Rattle.oc_coff.specs.{Forms.{symbol_size}, SymbolEntry.{symbol_at}, Tables.{slot_at}, Files.{CoffFile, tables_in}}
 use Rattle.oc_coff.proofs.HeadLemmas.{entry_lies}
 use Rattle.oc_coff.proofs.frame.Coff.symbol.Goals as goal
 

@@ -3,12 +3,9 @@ use Rattle.std.proofs.Common.{◌≡◌, ℕ, ◌-◌, ◌/◌, ◌<◌, ◌≤�
 use Rattle.oc_neutral.specs.declared.section.Section.{Section}
 use Rattle.oc_outside.specs.Windows.{IsFilled}
 use Rattle.oc_shelf.specs.Writing.Parts.{table_of}
-use Rattle.oc_coff.specs.SectionHeader.{section_header_bytes}
-use Rattle.oc_coff.specs.declared.section_header.SectionHeader.{SectionHeader}
-use Rattle.oc_coff_write.specs.declared.entries.Entry.{Entry}
+use Rattle.oc_coff.specs.{SectionHeader.{section_header_bytes}, declared.section_header.SectionHeader.{SectionHeader}}
 use Rattle.oc_coff.specs.declared.relocation.Relocation.{Relocation}
-use Rattle.oc_coff_write.specs.Entries.{entry_bytes}
-use Rattle.oc_coff_write.specs.Plans.{relocation_rows}
+use Rattle.oc_coff_write.specs.{declared.entries.Entry.{Entry}, Entries.{entry_bytes}, Plans.{relocation_rows}}
 use Rattle.oc_coff_write.proofs.PlanLemmas.{entries_are, length-strings, raw_is, relocs_are, section_low, strings_are}
 use Rattle.oc_coff_write.proofs.plan.CoffPartsParts.part_window.Goals as goal
 

@@ -3,12 +3,8 @@ use Rattle.std.proofs.Common.{◌≡◌, ◌≤◌, ◌<◌, ◌^◌, ◌-◌, �
 use Rattle.oc_outside.specs.Windows.{IsFilled}
 use Rattle.oc_neutral.specs.declared.section.Section.{Section}
 use Rattle.oc_shelf.specs.Writing.Parts.{table_of}
-use Rattle.oc_elf.specs.declared.shdr.Shdr.{Shdr}
-use Rattle.oc_elf.specs.Structures.{ehdr_bytes, shdr_bytes}
-use Rattle.oc_elf.specs.Classes.{word_of}
-use Rattle.oc_elf_write.specs.declared.heads.Head.{Head}
-use Rattle.oc_elf_write.specs.Bodies.{body_by, HasBody}
-use Rattle.oc_elf_write.specs.Plans.{parts_by}
+use Rattle.oc_elf.specs.{declared.shdr.Shdr.{Shdr}, Structures.{ehdr_bytes, shdr_bytes}, Classes.{word_of}}
+use Rattle.oc_elf_write.specs.{declared.heads.Head.{Head}, Bodies.{body_by, HasBody}, Plans.{parts_by}}
 use Rattle.oc_elf_write.proofs.PlanLemmas.{body_here, body_there, table_here}
 use Rattle.oc_elf_write.proofs.plan.ElfPartsParts.part_window.Goals as goal
 

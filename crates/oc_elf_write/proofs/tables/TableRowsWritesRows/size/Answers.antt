@@ -3,14 +3,9 @@ use Rattle.std.proofs.Common.{ℕ, ◌∙◌, map, sym, ap, subst}
 use Rattle.oc_base.specs.Numbers.{bytes_of_number}
 use Rattle.oc_base.proofs.NumberLaws.{length-bytes_of_number}
 use Rattle.oc_shelf.specs.Writing.Parts.{HaveSize}
-use Rattle.oc_elf.specs.Classes.{word_of}
-use Rattle.oc_elf.specs.Rel.{rel_size}
-use Rattle.oc_elf.specs.Shdr.{shdr_size}
-use Rattle.oc_elf.specs.Sym.{sym_size}
-use Rattle.oc_elf.specs.Structures.{index_bytes, rel_bytes, shdr_bytes, sym_bytes}
+use Rattle.oc_elf.specs.{Classes.{word_of}, Rel.{rel_size}, Shdr.{shdr_size}, Sym.{sym_size}, Structures.{index_bytes, rel_bytes, shdr_bytes, sym_bytes}}
 use Rattle.oc_elf_file.proofs.StructureLaws.{length-index_bytes, length-rel_bytes, length-shdr_bytes, length-sym_bytes}
-use Rattle.oc_elf_write.specs.declared.tables.TableRows.{TableRows}
-use Rattle.oc_elf_write.specs.Tables.{rows_by}
+use Rattle.oc_elf_write.specs.{declared.tables.TableRows.{TableRows}, Tables.{rows_by}}
 use Rattle.oc_elf_write.proofs.BodyLemmas.{rows_sized}
 use Rattle.oc_elf_write.proofs.tables.TableRowsWritesRows.size.Goals as goal
 

@@ -1,10 +1,7 @@
 -- The entry lies in the file.
 use Rattle.std.proofs.Common.{◌≡◌, ℕ, ◌+◌, ◌*◌, ◌<◌, length, Some, sym, ◌∙◌, ap, arith}
 use Rattle.std.specs.Prelude.{slice_get}
-use Rattle.oc_macho.specs.declared.relocation_info.RelocationInfo.{RelocationInfo}
-use Rattle.oc_macho.specs.Framed.{table_at}
-use Rattle.oc_macho.specs.RelocationInfo.{relocation_info_at}
-use Rattle.oc_macho.specs.Tables.{Tables}
+use Rattle.oc_macho.specs.{declared.relocation_info.RelocationInfo.{RelocationInfo}, Framed.{table_at}, RelocationInfo.{relocation_info_at}, Tables.{Tables}}
 use Rattle.oc_macho.proofs.FrameLemmas.{length-sections, reloc_lies, reloc_there, size_is}
 use Rattle.oc_macho.proofs.frame.Frame.entry.Goals as goal
 

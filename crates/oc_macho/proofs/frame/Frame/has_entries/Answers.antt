@@ -1,10 +1,7 @@
 -- The entries are as many as were counted.
 use Rattle.std.proofs.Common.{◌<◌, List, length, sym, ◌∙◌, ap, arith}
 use Rattle.oc_shelf.proofs.ReadingLaws.RowLemmas.{length-rows}
-use Rattle.oc_macho.specs.declared.relocation_info.RelocationInfo.{RelocationInfo}
-use Rattle.oc_macho.specs.RelocationInfo.{relocation_info_at}
-use Rattle.oc_macho.specs.Framed.{table_at}
-use Rattle.oc_macho.specs.Tables.{Tables}
+use Rattle.oc_macho.specs.{declared.relocation_info.RelocationInfo.{RelocationInfo}, RelocationInfo.{relocation_info_at}, Framed.{table_at}, Tables.{Tables}}
 use Rattle.oc_macho.proofs.FrameLemmas.{length-sections, relocs_are}
 use Rattle.oc_macho.proofs.frame.Frame.has_entries.Goals as goal
 

@@ -1,7 +1,6 @@
 -- The headers stand one behind another.
 use Rattle.std.proofs.Common.{◌≡◌, ℕ, ◌+◌, ◌*◌, ◌<◌, length, ◌∙◌, ap, arith}
-use Rattle.oc_macho.specs.SectionHeader.{section_header_size}
-use Rattle.oc_macho.specs.Tables.{Tables}
+use Rattle.oc_macho.specs.{SectionHeader.{section_header_size}, Tables.{Tables}}
 use Rattle.oc_macho.proofs.FrameLemmas.{header_at, header_lies, length-sections, size_is, word_is}
 use Rattle.oc_macho.proofs.frame.Frame.header_place.Goals as goal
 

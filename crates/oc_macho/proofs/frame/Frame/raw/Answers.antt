@@ -1,7 +1,6 @@
 -- The bytes lie in the file.
 use Rattle.std.proofs.Common.{◌≡◌, ◌<◌, length, sym, ◌∙◌, ap, arith}
-use Rattle.oc_macho.specs.Framed.{table_at}
-use Rattle.oc_macho.specs.Tables.{Tables}
+use Rattle.oc_macho.specs.{Framed.{table_at}, Tables.{Tables}}
 use Rattle.oc_macho.proofs.FrameLemmas.{length-sections, raw_is, size_is}
 use Rattle.oc_macho.proofs.frame.Frame.raw.Goals as goal
 

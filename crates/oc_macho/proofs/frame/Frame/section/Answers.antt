@@ -1,8 +1,6 @@
 -- The header lies in the file.
 use Rattle.std.proofs.Common.{◌≡◌, ◌+◌, ◌*◌, ◌<◌, length, sym, ◌∙◌, ap, arith}
-use Rattle.oc_macho.specs.Framed.{table_at}
-use Rattle.oc_macho.specs.SectionHeader.{section_header_at, section_header_size}
-use Rattle.oc_macho.specs.Tables.{Tables}
+use Rattle.oc_macho.specs.{Framed.{table_at}, SectionHeader.{section_header_at, section_header_size}, Tables.{Tables}}
 use Rattle.oc_macho.proofs.FrameLemmas.{header_at, header_is, length-sections, size_is, word_is}
 use Rattle.oc_macho.proofs.frame.Frame.section.Goals as goal
 

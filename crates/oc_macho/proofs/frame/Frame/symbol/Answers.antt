@@ -1,9 +1,7 @@
 -- The symbol lies in the file.
 use Rattle.std.proofs.Common.{◌≡◌, ◌+◌, ◌*◌, ◌<◌, length, Some, sym, ◌∙◌, ap, arith}
 use Rattle.std.specs.Prelude.{slice_get}
-use Rattle.oc_macho.specs.declared.nlist.Nlist.{Nlist}
-use Rattle.oc_macho.specs.Nlist.{nlist_at, nlist_size}
-use Rattle.oc_macho.specs.Tables.{Tables}
+use Rattle.oc_macho.specs.{declared.nlist.Nlist.{Nlist}, Nlist.{nlist_at, nlist_size}, Tables.{Tables}}
 use Rattle.oc_macho.proofs.FrameLemmas.{length-symbols, size_is, symbol_at, symbol_there, word_is}
 use Rattle.oc_macho.proofs.frame.Frame.symbol.Goals as goal
 

@@ -1,7 +1,6 @@
 -- The symbols stand one behind another.
 use Rattle.std.proofs.Common.{◌≡◌, ℕ, ◌+◌, ◌*◌, ◌<◌, length, ◌∙◌, ap, arith}
-use Rattle.oc_macho.specs.Nlist.{nlist_size}
-use Rattle.oc_macho.specs.Tables.{Tables}
+use Rattle.oc_macho.specs.{Nlist.{nlist_size}, Tables.{Tables}}
 use Rattle.oc_macho.proofs.FrameLemmas.{length-symbols, size_is, symbol_at, symbol_lies, word_is}
 use Rattle.oc_macho.proofs.frame.Frame.symbol_place.Goals as goal
 

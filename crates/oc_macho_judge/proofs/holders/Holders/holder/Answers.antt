@@ -1,8 +1,7 @@
 -- The last edge up to an address tells which section holds it.
 use Rattle.std.proofs.Common.{◌≡◌, List, ◌∙◌, subst, rules}
 use Rattle.std.specs.List.{All}
-use Rattle.oc_macho_judge.specs.declared.holders.Edge.{Edge}
-use Rattle.oc_macho_judge.specs.Holders.{IsAbove, IsLastUpto}
+use Rattle.oc_macho_judge.specs.{declared.holders.Edge.{Edge}, Holders.{IsAbove, IsLastUpto}}
 use Rattle.oc_macho_judge.proofs.HolderLemmas.{looked_up, none_up}
 use Rattle.oc_macho_judge.proofs.holders.Holders.holder.Goals as goal
 

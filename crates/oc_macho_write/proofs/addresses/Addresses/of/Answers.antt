@@ -5,8 +5,7 @@ use Rattle.oc_neutral.specs.Objects.{Object}
 use Rattle.oc_neutral.proofs.StoringSteps.{put_back}
 use Rattle.oc_macho_file.specs.Addresses.{is_at, stored_end}
 use Rattle.oc_macho_file.proofs.CodedLaws.{for_mach}
-use Rattle.oc_macho_write.specs.Addresses.{place_or, those_end, those_laid}
-use Rattle.oc_macho_write.specs.Values.{AreAddresses}
+use Rattle.oc_macho_write.specs.{Addresses.{place_or, those_end, those_laid}, Values.{AreAddresses}}
 use Rattle.oc_macho_write.proofs.AddressLemmas.{addresses_are, ends_low, memory_is}
 use Rattle.oc_macho_write.proofs.addresses.Addresses.of.Goals as goal
 

@@ -1,11 +1,9 @@
 -- Each turn gives its line the number of the lines before.
 use Rattle.std.proofs.Common.{arith}
 use Rattle.std.proofs.lemmas.Option.{slice_get-get_or}
-use Rattle.oc_macho_file.proofs.CodedLaws.{for_mach}
-use Rattle.oc_macho_file.proofs.CountLaws.{few_lines}
+use Rattle.oc_macho_file.proofs.{CodedLaws.{for_mach}, CountLaws.{few_lines}}
 use Rattle.oc_macho_write.specs.declared.lines.Line.TheVariants as line
-use Rattle.oc_macho_write.proofs.LineLemmas.{line_listed, as_many_lines}
-use Rattle.oc_macho_write.proofs.NumberLemmas.{can_give, length-numbered, upto_none, upto_more, upto_all}
+use Rattle.oc_macho_write.proofs.{LineLemmas.{line_listed, as_many_lines}, NumberLemmas.{can_give, length-numbered, upto_none, upto_more, upto_all}}
 use Rattle.oc_macho_write.proofs.numbers.Numbers.of.Goals as goal
 
 pub loop-at-init : goal.loop-at-init

@@ -2,9 +2,7 @@
 use Rattle.std.proofs.Common.{refl, arith}
 use Rattle.std.proofs.lemmas.Option.{slice_get-get_or}
 use Rattle.oc_macho_write.specs.declared.parts.Part.TheVariants as part
-use Rattle.oc_macho_write.proofs.BodyLemmas.{part_listed}
-use Rattle.oc_macho_write.proofs.PartLemmas.{as_many_parts}
-use Rattle.oc_macho_write.proofs.PlaceLemmas.{can_give, upto_none, upto_more, upto_all}
+use Rattle.oc_macho_write.proofs.{BodyLemmas.{part_listed}, PartLemmas.{as_many_parts}, PlaceLemmas.{can_give, upto_none, upto_more, upto_all}}
 use Rattle.oc_macho_write.proofs.places.Places.of.Goals as goal
 
 pub loop-at-init : goal.loop-at-init

@@ -2,8 +2,7 @@
 use Rattle.std.proofs.Common.{◌≡◌, ◌<◌, ◌^◌, ℕ, List, length, get_or, sym, subst}
 use Rattle.oc_outside.specs.Windows.{IsFilled}
 use Rattle.oc_neutral.specs.declared.section.Section.{Section}
-use Rattle.oc_macho_write.specs.declared.parts.Part.{Part}
-use Rattle.oc_macho_write.specs.Bodies.{body_by, HasBody}
+use Rattle.oc_macho_write.specs.{declared.parts.Part.{Part}, Bodies.{body_by, HasBody}}
 use Rattle.oc_macho_write.proofs.PlanLemmas.{body_here, body_there}
 use Rattle.oc_macho_write.proofs.plan.MachPartsParts.part_window.Goals as goal
 

@@ -1,8 +1,7 @@
 -- Each row has the size of its structure.
 use Rattle.std.proofs.Common.{ℕ, map, sym, subst}
 use Rattle.oc_shelf.specs.Writing.Parts.{HaveSize}
-use Rattle.oc_macho.specs.Nlist.{nlist_size}
-use Rattle.oc_macho.specs.Structures.{nlist_bytes}
+use Rattle.oc_macho.specs.{Nlist.{nlist_size}, Structures.{nlist_bytes}}
 use Rattle.oc_macho_file.proofs.StructureLaws.{length-nlist_bytes}
 use Rattle.oc_macho_write.proofs.TableRows.{rows_sized}
 use Rattle.oc_macho_write.proofs.tables.NlistRowsWritesRows.size.Goals as goal

@@ -1,9 +1,7 @@
 use Rattle.std.proofs.Common.{◌≡◌, ◌≤◌, drop, length}
 use Rattle.std.specs.List.{AllByRecursion, filter_map}
 use Rattle.oc_linking.specs.Keeping.{kept_of}
-use Rattle.oc_neutral.specs.declared.section.Section.{Section}
-use Rattle.oc_neutral.specs.Invariants.{IsMember, groups_of}
-use Rattle.oc_neutral.specs.Without.{begun_by, groups_left, ArePlaces}
+use Rattle.oc_neutral.specs.{declared.section.Section.{Section}, Invariants.{IsMember, groups_of}, Without.{begun_by, groups_left, ArePlaces}}
 use Rattle.oc_neutral.proofs.without.groups_left.groups_left.Given as goal
 
 -- the groups so far, and those of the sections that are left, are all

@@ -1,8 +1,6 @@
 use Rattle.std.proofs.Common.{◌∙◌, ◌<◌, length, ap, arith}
-use Rattle.oc_neutral.proofs.KeptLists.{keeping_goes, keeping_stays}
-use Rattle.oc_neutral.proofs.Positions.{there_at}
+use Rattle.oc_neutral.proofs.{KeptLists.{keeping_goes, keeping_stays}, Positions.{there_at}, without.kept.keep_only.Goals.{then-stay-at, else-stay-at}}
 use Rattle.oc_neutral.proofs.without.kept.keep_only.Goals as goal
-use Rattle.oc_neutral.proofs.without.kept.keep_only.Goals.{then-stay-at, else-stay-at}
 
 pub loop-at-preserved : goal.loop-at-preserved
 loop-at-preserved g c =

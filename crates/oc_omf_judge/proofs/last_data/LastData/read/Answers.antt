@@ -1,17 +1,12 @@
 -- Data by their head.
 use Rattle.std.proofs.Common.{◌≡◌, ◌+◌, ◌≤◌, ◌^◌, false, cond, Some, Ok, Err, sym, ◌∙◌, ap, arith}
-use Rattle.std.specs.Prelude.{drop, min, nat_lt}
-use Rattle.std.specs.Option.{option_map}
+use Rattle.std.specs.{Prelude.{drop, min, nat_lt}, Option.{option_map}}
 use Rattle.std.proofs.lemmas.Bool.Decides.{nat_tests}
 use Rattle.oc_omf_records.specs.declared.faults.BlockFault.TheVariants as block
 use Rattle.oc_omf_records.specs.Blocks.{size_of}
-use Rattle.oc_omf.specs.Cursor.{Reading}
-use Rattle.oc_omf.specs.Known.{row_of}
-use Rattle.oc_omf.specs.Structures.{Piece, blocks_by}
-use Rattle.oc_omf_judge.specs.Defined.{part_of, piece_with}
-use Rattle.oc_omf_judge.proofs.DataLemmas.{head_inside, piece_is}
-use Rattle.oc_omf_judge.proofs.PieceLemmas.{headed, piece_headed}
-use Rattle.oc_omf_judge.specs.Lying.{Lying, lost, lying_at, lying_of}
+use Rattle.oc_omf.specs.{Cursor.{Reading}, Known.{row_of}, Structures.{Piece, blocks_by}}
+use Rattle.oc_omf_judge.specs.{Defined.{part_of, piece_with}, Lying.{Lying, lost, lying_at, lying_of}}
+use Rattle.oc_omf_judge.proofs.{DataLemmas.{head_inside, piece_is}, PieceLemmas.{headed, piece_headed}}
 use Rattle.oc_omf_judge.proofs.last_data.LastData.read.Goals as goal
 
 pub returns-in_default : goal.returns-in_default

@@ -1,7 +1,6 @@
 -- Nothing stood before.
 use Rattle.std.proofs.Common.{refl, rules}
-use Rattle.oc_omf.specs.Fixups.{fixed_in}
-use Rattle.oc_omf.specs.Tables.{tables_of}
+use Rattle.oc_omf.specs.{Fixups.{fixed_in}, Tables.{tables_of}}
 use Rattle.oc_omf_judge.proofs.reached.Reached.new.Goals as goal
 
 pub returns : goal.returns

@@ -1,9 +1,7 @@
 -- A field begins near one of the places, or near none.
 use Rattle.std.proofs.Common.{ℕ, ◌+◌, take, inl, inr, sym, ◌∙◌, ap, subst}
-use Rattle.std.specs.Prelude.{nat_eq}
-use Rattle.std.specs.List.{list_any}
-use Rattle.std.proofs.lemmas.List.{take_all}
-use Rattle.std.proofs.lemmas.Bool.{or_cases}
+use Rattle.std.specs.{Prelude.{nat_eq}, List.{list_any}}
+use Rattle.std.proofs.lemmas.{List.{take_all}, Bool.{or_cases}}
 use Rattle.oc_omf_judge.specs.Starts.{IsNear}
 use Rattle.oc_omf_judge.proofs.StartLemmas.{any_more, equal_places, place_there}
 use Rattle.oc_omf_judge.proofs.starts.Starts.are_met.Goals as goal

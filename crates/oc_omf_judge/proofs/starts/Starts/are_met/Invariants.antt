@@ -1,7 +1,6 @@
 -- No field begins near one of the places so far.
 use Rattle.std.proofs.Common.{◌≡◌, ℕ, ◌+◌, true}
-use Rattle.std.specs.Prelude.{nat_eq, take}
-use Rattle.std.specs.List.{list_any}
+use Rattle.std.specs.{Prelude.{nat_eq, take}, List.{list_any}}
 use Rattle.oc_omf_judge.specs.Starts.{IsNear}
 use Rattle.oc_omf_judge.proofs.starts.Starts.are_met.Given as goal
 

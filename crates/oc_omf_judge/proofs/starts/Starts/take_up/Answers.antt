@@ -1,8 +1,6 @@
 -- One place after another.
 use Rattle.std.proofs.Common.{◌+◌, take, sym, ◌∙◌, ap}
-use Rattle.std.specs.Prelude.{◌||◌, is_some, nat_eq}
-use Rattle.std.specs.BTreeMap.{get}
-use Rattle.std.specs.Ordering.{nat_cmp}
+use Rattle.std.specs.{Prelude.{◌||◌, is_some, nat_eq}, BTreeMap.{get}, Ordering.{nat_cmp}}
 use Rattle.std.proofs.lemmas.List.{take_all}
 use Rattle.std.proofs.Math.Bool.{or-false}
 use Rattle.oc_omf_judge.specs.Starts.{is_among, is_start}

@@ -1,6 +1,5 @@
 use Rattle.std.proofs.Common.{◌≡◌, ◌-◌, ◌≤◌, length, true}
-use Rattle.oc_omf_records.specs.BlockReading.{in_front, rest_at}
-use Rattle.oc_omf_records.specs.Rows.{rows_of, are_sized}
+use Rattle.oc_omf_records.specs.{BlockReading.{in_front, rest_at}, Rows.{rows_of, are_sized}}
 use Rattle.oc_omf_records.proofs.block.Block.read.Given as goal
 
 -- what was read, and behind it what is left to be read, is the whole; each block took a byte at least

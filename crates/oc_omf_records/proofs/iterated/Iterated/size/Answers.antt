@@ -1,7 +1,6 @@
 use Rattle.std.proofs.Common.{◌∙◌, ap, arith}
 use Rattle.std.proofs.lemmas.Grind.{common_steps}
-use Rattle.oc_omf_records.specs.Blocks.{size_of}
-use Rattle.oc_omf_records.specs.Rows.{row_of}
+use Rattle.oc_omf_records.specs.{Blocks.{size_of}, Rows.{row_of}}
 use Rattle.oc_omf_records.proofs.SizedLemmas.{row_of-Content, row_of-Nested, kept_size}
 use Rattle.oc_omf_records.proofs.iterated.Iterated.size.Goals as goal
 

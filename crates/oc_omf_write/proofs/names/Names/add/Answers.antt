@@ -1,7 +1,6 @@
 -- A text that has a place stays, and another is added behind the last.
 use Rattle.std.proofs.Common.{◌≡◌, ◌∙◌, ap, None, Some, length, rules}
-use Rattle.std.specs.Prelude.{bytes_eq}
-use Rattle.std.specs.Map.{update}
+use Rattle.std.specs.{Prelude.{bytes_eq}, Map.{update}}
 use Rattle.oc_omf_write.specs.Names.{value_at}
 use Rattle.oc_omf_write.proofs.NameLemmas.{names_more}
 use Rattle.oc_omf_write.proofs.names.Names.add.Goals as goal

@@ -1,15 +1,12 @@
 -- Each part is an entry.
 use Rattle.std.proofs.Common.{◌≡◌, List, [], length, map, Some, sym, ◌∙◌, ap, subst, arith}
 use Rattle.std.specs.Prelude.{slice_get}
-use Rattle.std.proofs.lemmas.List.{length-map}
-use Rattle.std.proofs.lemmas.Option.{get_or_from_slice_get}
+use Rattle.std.proofs.lemmas.{List.{length-map}, Option.{get_or_from_slice_get}}
 use Rattle.oc_neutral.proofs.Positions.{each_at}
 use Rattle.oc_outside.specs.Windows.{IsFilled}
 use Rattle.oc_shelf.proofs.WritingLaws.MemberLemmas.{member_map}
 use Rattle.oc_omf.specs.Bytes.{entry_bytes}
-use Rattle.oc_omf_write.specs.declared.entries.Entry.{Entry}
-use Rattle.oc_omf_write.specs.Entries.{type_of}
-use Rattle.oc_omf_write.specs.Tables.{CanPut, bytes_by}
+use Rattle.oc_omf_write.specs.{declared.entries.Entry.{Entry}, Entries.{type_of}, Tables.{CanPut, bytes_by}}
 use Rattle.oc_omf_write.proofs.plan.OmfPartsParts.part_window.Goals as goal
 
 pub entry_at-entry-requires : goal.entry_at-entry-requires

@@ -2,8 +2,7 @@
 use Rattle.std.proofs.Common.{◌+◌, ◌≤◌, ◌++◌, List, ℕ, length, sym, ◌∙◌, ap, subst}
 use Rattle.std.specs.Prelude.{flat_map}
 use Rattle.oc_omf_file.specs.Names.{names_size}
-use Rattle.oc_omf.specs.Bytes.{name_bytes}
-use Rattle.oc_omf.specs.declared.contents.TheConstants.{ROOM}
+use Rattle.oc_omf.specs.{Bytes.{name_bytes}, declared.contents.TheConstants.{ROOM}}
 use Rattle.oc_omf_write.proofs.TableLemmas.{texts_same, range_short}
 use Rattle.oc_omf_write.proofs.tables.Tables.put_names.Goals as goal
 

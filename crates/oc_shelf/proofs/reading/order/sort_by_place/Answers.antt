@@ -1,10 +1,8 @@
 -- The closure answers by the order.
 use Rattle.std.proofs.Common.{rules}
 use Rattle.std.specs.Ordering.{is_lt}
-use Rattle.std.proofs.lemmas.List.Sorted.{ranks_by}
-use Rattle.std.proofs.lemmas.Fn.{always_returns_same}
-use Rattle.oc_shelf.specs.declared.reading.order.PlacedEntry.{PlacedEntry}
-use Rattle.oc_shelf.specs.Reading.Order.{by_place}
+use Rattle.std.proofs.lemmas.{List.Sorted.{ranks_by}, Fn.{always_returns_same}}
+use Rattle.oc_shelf.specs.{declared.reading.order.PlacedEntry.{PlacedEntry}, Reading.Order.{by_place}}
 use Rattle.oc_shelf.proofs.ReadingLaws.OrderLemmas.{by_place_total}
 use Rattle.oc_shelf.proofs.reading.order.sort_by_place.Goals as goal
 

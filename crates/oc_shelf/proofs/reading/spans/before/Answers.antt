@@ -1,7 +1,6 @@
 -- The last of the spans up to the place.
 use Rattle.std.proofs.Common.{arith}
-use Rattle.std.proofs.lemmas.Map.Keys.{ge_from_not_lt}
-use Rattle.std.proofs.lemmas.Bool.Decides.{nat_tests}
+use Rattle.std.proofs.lemmas.{Map.Keys.{ge_from_not_lt}, Bool.Decides.{nat_tests}}
 use Rattle.oc_shelf.proofs.reading.spans.before.Goals as goal
 
 pub returns-in-Some-clause-greatest : goal.returns-in-Some-clause-greatest

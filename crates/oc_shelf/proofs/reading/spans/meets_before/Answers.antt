@@ -1,11 +1,7 @@
 -- The spans before the last one end where it begins, or before.
 use Rattle.std.proofs.Common.{◌≡◌, ◌≤◌, inl, inr, refl, sym, ◌∙◌, ap, subst, arith}
-use Rattle.std.specs.Prelude.{IsSome}
-use Rattle.std.specs.BTreeMap.{get}
-use Rattle.std.specs.Ordering.{nat_cmp}
-use Rattle.std.proofs.lemmas.Bool.{cases_eq}
-use Rattle.std.proofs.lemmas.Bool.Decides.{nat_tests}
-use Rattle.std.proofs.lemmas.Option.{same_Some}
+use Rattle.std.specs.{Prelude.{IsSome}, BTreeMap.{get}, Ordering.{nat_cmp}}
+use Rattle.std.proofs.lemmas.{Bool.{cases_eq}, Bool.Decides.{nat_tests}, Option.{same_Some}}
 use Rattle.oc_shelf.proofs.reading.spans.meets_before.Goals as goal
 
 pub returns-in-Some-clause-free : goal.returns-in-Some-clause-free

@@ -1,7 +1,6 @@
 -- The zeros fill what is left of the buffer.
 use Rattle.std.proofs.Common.{◌≡◌, ℕ, ◌+◌, ◌-◌, length, replicate, refl, arith}
-use Rattle.oc_shelf.proofs.WritingLaws.WindowLemmas.{filled_long, filled_rest}
-use Rattle.oc_shelf.proofs.WritingLaws.LayoutLemmas.{zeros_filled}
+use Rattle.oc_shelf.proofs.{WritingLaws.WindowLemmas.{filled_long, filled_rest}, WritingLaws.LayoutLemmas.{zeros_filled}}
 use Rattle.oc_shelf.proofs.writing.parts.fill_gap.Goals as goal
 
 pub returns : goal.returns

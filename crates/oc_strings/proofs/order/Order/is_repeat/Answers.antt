@@ -1,8 +1,7 @@
 use Rattle.std.proofs.Common.{◌<◌, ℕ, [], Some, None, length, sym, ◌∙◌, ap, subst, arith}
 use Rattle.std.proofs.lemmas.List.{get_or_default}
 use Rattle.std.specs.Prelude.{nat_eq}
-use Rattle.oc_strings.specs.declared.order.Entry.{Entry}
-use Rattle.oc_strings.specs.Order.{IsNextTail, name_at, names_of}
+use Rattle.oc_strings.specs.{declared.order.Entry.{Entry}, Order.{IsNextTail, name_at, names_of}}
 use Rattle.oc_strings.proofs.EntryLemmas.{count_of_names, name_of_entry, repeat_told, repeat_none}
 use Rattle.oc_strings.proofs.order.Order.is_repeat.Goals as goal
 

@@ -1,9 +1,8 @@
 use Rattle.std.proofs.Common.{◌≡◌, ◌<◌, ◌+◌, ◌++◌, ◌∷◌, [], ℕ, true, false, length, sym, ◌∙◌, ap, subst, arith}
-use Rattle.oc_strings.specs.declared.order.Entry.{Entry}
-use Rattle.oc_strings.specs.Order.{names_of, is_repeat, number_at}
+use Rattle.oc_strings.specs.{declared.order.Entry.{Entry}, Order.{names_of, is_repeat, number_at}}
 use Rattle.oc_strings.proofs.EntryLemmas.{IsSearched, number_is, searched_old, searched_new, searched_all}
-use Rattle.oc_strings.proofs.order.Order.numbers.Goals as goal
 use Rattle.oc_strings.proofs.order.Order.numbers.Goals.{then-not-is_repeat+in_ok-push, else-not-is_repeat}
+use Rattle.oc_strings.proofs.order.Order.numbers.Goals as goal
 
 pub loop-k-preserved : goal.loop-k-preserved
 loop-k-preserved c = λ names o.

@@ -2,11 +2,8 @@ use Rattle.std.proofs.Common.{◌≡◌, ℕ, ◌<◌, List, [], length, get_or,
 use Rattle.std.proofs.lemmas.List.{get_or_default, length-map}
 use denote.Ref.{Bor}
 use Rattle.oc_base.specs.Strings.{text_of, table_text}
-use Rattle.oc_strings.specs.Tables.{StringTable, texts}
-use Rattle.oc_strings.specs.Inside.{names_in, IsSearchable}
-use Rattle.oc_strings.specs.Parts.{ArePlaces}
-use Rattle.oc_strings.proofs.EntryLemmas.{number_is, number_within}
-use Rattle.oc_strings.proofs.SliceLemmas.{text_at}
+use Rattle.oc_strings.specs.{Tables.{StringTable, texts}, Inside.{names_in, IsSearchable}, Parts.{ArePlaces}}
+use Rattle.oc_strings.proofs.{EntryLemmas.{number_is, number_within}, SliceLemmas.{text_at}}
 use Rattle.oc_strings.proofs.TableLemmas.{offsets_count, offsets_fit, lengths_fit, names_fit, names_are, is_table}
 use Rattle.oc_strings.proofs.table.Table.of_slices.Goals as goal
 

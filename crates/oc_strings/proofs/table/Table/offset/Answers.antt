@@ -1,8 +1,7 @@
 use Rattle.std.proofs.Common.{◌≡◌, Option, ℕ, ◌↔◌, IsSome, sym, ◌∙◌, ap, subst}
 use Rattle.std.specs.List.{Contains}
 use Rattle.oc_base.specs.Strings.{table_place}
-use Rattle.oc_strings.specs.Tables.{StringTable}
-use Rattle.oc_strings.specs.Inside.{names_in}
+use Rattle.oc_strings.specs.{Tables.{StringTable}, Inside.{names_in}}
 use Rattle.oc_strings.proofs.TableLemmas.{given_iff, place_stands}
 use Rattle.oc_strings.proofs.table.Table.offset.Goals as goal
 

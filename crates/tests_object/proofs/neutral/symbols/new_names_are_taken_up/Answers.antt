@@ -2,10 +2,8 @@
 use Rattle.std.proofs.Common.{Bool, true, false, not, cond, ◌&&◌, IsOk, Ok, Err, [], refl}
 use Rattle.oc_base.specs.declared.format.Format.{Format}
 use Rattle.oc_linking.specs.Parts.{is_local}
-use Rattle.oc_neutral.specs.declared.fault.BuildFault.{BuildFault}
+use Rattle.oc_neutral.specs.{declared.fault.BuildFault.{BuildFault}, declared.symbol.Symbol.{Symbol}, Building.{Draft, empty_draft, symbol_added, with_symbol}}
 use Rattle.oc_neutral.specs.declared.fault.BuildFault.TheVariants as fault
-use Rattle.oc_neutral.specs.declared.symbol.Symbol.{Symbol}
-use Rattle.oc_neutral.specs.Building.{Draft, empty_draft, symbol_added, with_symbol}
 use Rattle.tests_object.proofs.neutral.symbols.new_names_are_taken_up.Goals as goal
 
 first : (format : Format) (y : Symbol) → IsOk (symbol_added (empty_draft format) y)
