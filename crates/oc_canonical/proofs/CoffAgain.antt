@@ -6,10 +6,10 @@ use Rattle.std.specs.Option.{option_map, option_map_or, option_and_then, unwrap_
 use Rattle.std.proofs.lemmas.{Bool.{true≢false, cases_lt, and_parts, false_from_ne_true}, List.{length-map}, List.FromFn.{length-enumerate_from}}
 use Rattle.std.proofs.lemmas.Option.{none-some, same_Some, slice_get_within}
 use Rattle.oc_base.specs.{Numbers.{bytes_of_number}, Strings.{table_place, table_text}}
-use Rattle.oc_linking.specs.{declared.terms.Mark.{Mark}, declared.terms.Mark.TheVariants.{NoType, Function, Object as ObjectMark}}
-use Rattle.oc_linking.specs.{declared.terms.Hint.TheVariants.{Call}, declared.terms.Value.{Value}, declared.terms.Fallback.{Fallback}}
-use Rattle.oc_linking.specs.{declared.terms.Binding.{Binding}, declared.terms.Binding.TheVariants.{Local, Global, Undefined, Common, Weak}}
-use Rattle.oc_linking.specs.{declared.terms.Patch.{Patch}, Images.{overlay}, Parts.{is_local}}
+use Rattle.oc_linking.specs.{declared.terms.Mark.{Mark}, declared.terms.Mark.TheVariants.{Object as ObjectMark}, declared.terms.Hint.TheVariants.{Call}}
+use Rattle.oc_linking.specs.{declared.terms.Value.{Value}, declared.terms.Fallback.{Fallback}, declared.terms.Binding.{Binding}}
+use Rattle.oc_linking.specs.{declared.terms.Binding.TheVariants.{Local, Global, Undefined, Common, Weak}, declared.terms.Patch.{Patch}, Images.{overlay}}
+use Rattle.oc_linking.specs.Parts.{is_local}
 use Rattle.oc_linking.specs.declared.terms.Fallback.TheVariants as fallback
 use Rattle.oc_algebra.specs.Fields.{to_field_of}
 use Rattle.oc_chains.specs.declared.field.Field as chains
@@ -36,8 +36,8 @@ use Rattle.oc_coff.specs.{declared.file_header.FileHeader.{FileHeader}, declared
 use Rattle.oc_coff.specs.{declared.section_aux.SectionAux.{SectionAux}, declared.weak_aux.WeakAux.{WeakAux}, declared.relocation.Relocation.{Relocation}}
 use Rattle.oc_coff.specs.{FileHeader.{file_header_bytes}, SectionHeader.{section_header_bytes}, SymbolEntry.{symbol_bytes}, SectionAux.{section_aux_bytes}}
 use Rattle.oc_coff.specs.{WeakAux.{weak_aux_bytes}, Relocation.{relocation_bytes}, declared.form.CoffForm.{CoffForm}}
-use Rattle.oc_coff.specs.{declared.form.CoffForm.TheVariants.{Usual32, Usual64, Big32, Big64}, Forms.{format_of, word_of, shape_of, symbol_size}}
-use Rattle.oc_coff.specs.{Names.{padded}, Flags.{with_count, pointer_to, section_flags, machine_of, version_of}}
+use Rattle.oc_coff.specs.{Forms.{format_of, word_of, shape_of, symbol_size}, Names.{padded}}
+use Rattle.oc_coff.specs.Flags.{with_count, pointer_to, section_flags, machine_of, version_of}
 use Rattle.oc_coff.specs.Values.{numbers_by, default_numbers, type_by, class_by, aux_by}
 use Rattle.oc_coff_file.specs.Lines.{Line, SectionLine, LocalLine, DefaultLine, OuterLine, lines_where, section_lines, is_written_local, is_free, lines_of, line_size, numbered_lines, entry_count, is_section_line, is_default_line, is_outer_line, section_number, default_number, outer_number}
 use Rattle.oc_coff_file.specs.Bodies.{number_or, field_number, field_patch, field_patches, raw_of, target_number, type_of, relocation_of, relocs_of}
@@ -53,94 +53,41 @@ use Rattle.oc_linking.proofs.LawProofs.{not-true}
 -- ... what a symbol says
 
 place_same : (n : Object) (shown : List (ℕ × ℕ)) (b : Binding) → global_place (seen_binding coff_manner n shown b) ≡ global_place b
-place_same n shown (Local v) = refl
-place_same n shown (Global v) = refl
-place_same n shown Undefined = refl
-place_same n shown (Common size align) = refl
-place_same n shown (Weak f) = refl
+place_same n shown b = grind arith
 
 default_same : (n : Object) (shown : List (ℕ × ℕ)) (b : Binding) → is_weak_with has_default (seen_binding coff_manner n shown b) ≡ is_weak_with has_default b
-default_same n shown (Local v) = refl
-default_same n shown (Global v) = refl
-default_same n shown Undefined = refl
-default_same n shown (Common size align) = refl
-default_same n shown (Weak (fallback.Place k offset)) = refl
-default_same n shown (Weak fallback.Zero) = refl
-default_same n shown (Weak (fallback.Name k)) = refl
+default_same n shown b = grind arith
 
 weak_same : (n : Object) (shown : List (ℕ × ℕ)) (b : Binding) → is_weak_with (λ f. true) (seen_binding coff_manner n shown b) ≡ is_weak_with (λ f. true) b
-weak_same n shown (Local v) = refl
-weak_same n shown (Global v) = refl
-weak_same n shown Undefined = refl
-weak_same n shown (Common size align) = refl
-weak_same n shown (Weak f) = refl
+weak_same n shown b = grind arith
 
 written_same : (writes : List ℕ → Value → Bool) (n : Object) (shown : List (ℕ × ℕ)) (name : List ℕ) (b : Binding) → is_written_by writes name (seen_binding coff_manner n shown b) ≡ is_written_by writes name b
-written_same writes n shown name (Local v) = refl
-written_same writes n shown name (Global v) = refl
-written_same writes n shown name Undefined = refl
-written_same writes n shown name (Common size align) = refl
-written_same writes n shown name (Weak f) = refl
+written_same writes n shown name b = grind arith
 
 defaults_same : (n : Object) (shown : List (ℕ × ℕ)) (name : List ℕ) (b : Binding) → defaults_of name (seen_binding coff_manner n shown b) ≡ defaults_of name b
-defaults_same n shown name (Local v) = refl
-defaults_same n shown name (Global v) = refl
-defaults_same n shown name Undefined = refl
-defaults_same n shown name (Common size align) = refl
-defaults_same n shown name (Weak (fallback.Place k offset)) = refl
-defaults_same n shown name (Weak fallback.Zero) = refl
-defaults_same n shown name (Weak (fallback.Name k)) = refl
+defaults_same n shown name b = grind arith
 
 no_defaults : (name : List ℕ) (b : Binding) → is_weak_with has_default b ≡ false → defaults_of name b ≡ []
-no_defaults name (Local v) e = refl
-no_defaults name (Global v) e = refl
-no_defaults name Undefined e = refl
-no_defaults name (Common size align) e = refl
-no_defaults name (Weak (fallback.Place k offset)) e = absurd (true≢false e)
-no_defaults name (Weak fallback.Zero) e = absurd (true≢false e)
-no_defaults name (Weak (fallback.Name k)) e = refl
+no_defaults name b e = grind arith
 
 numbers_same : (n : Object) (shown : List (ℕ × ℕ)) (b : Binding) → numbers_by (seen_binding coff_manner n shown b) ≡ numbers_by b
-numbers_same n shown (Local v) = refl
-numbers_same n shown (Global v) = refl
-numbers_same n shown Undefined = refl
-numbers_same n shown (Common size align) = refl
-numbers_same n shown (Weak f) = refl
+numbers_same n shown b = grind arith
 
 default_numbers_same : (n : Object) (shown : List (ℕ × ℕ)) (b : Binding) → default_numbers (seen_binding coff_manner n shown b) ≡ default_numbers b
-default_numbers_same n shown (Local v) = refl
-default_numbers_same n shown (Global v) = refl
-default_numbers_same n shown Undefined = refl
-default_numbers_same n shown (Common size align) = refl
-default_numbers_same n shown (Weak (fallback.Place k offset)) = refl
-default_numbers_same n shown (Weak fallback.Zero) = refl
-default_numbers_same n shown (Weak (fallback.Name k)) = refl
+default_numbers_same n shown b = grind arith
 
 class_same : (n : Object) (shown : List (ℕ × ℕ)) (b : Binding) → class_by (seen_binding coff_manner n shown b) ≡ class_by b
-class_same n shown (Local v) = refl
-class_same n shown (Global v) = refl
-class_same n shown Undefined = refl
-class_same n shown (Common size align) = refl
-class_same n shown (Weak f) = refl
+class_same n shown b = grind arith
 
 aux_same : (n : Object) (shown : List (ℕ × ℕ)) (b : Binding) → aux_by (seen_binding coff_manner n shown b) ≡ aux_by b
-aux_same n shown (Local v) = refl
-aux_same n shown (Global v) = refl
-aux_same n shown Undefined = refl
-aux_same n shown (Common size align) = refl
-aux_same n shown (Weak f) = refl
+aux_same n shown b = grind arith
 
 mark_same : (mark : Mark) → type_by (coff_mark mark) ≡ type_by mark
-mark_same NoType = refl
-mark_same Function = refl
-mark_same ObjectMark = refl
+mark_same mark = grind arith
 
 -- an object of COFF has no types for calls
 pub plain_rows : (w : CoffForm) → AllByRecursion (λ (r : Row). same_hint r.hint Call ≡ false) (rows_of (format_of w))
-plain_rows Usual32 = (refl, (refl, (refl, (refl, (refl, tt)))))
-plain_rows Usual64 = (refl, (refl, (refl, (refl, (refl, (refl, (refl, (refl, (refl, (refl, (refl, tt)))))))))))
-plain_rows Big32 = (refl, (refl, (refl, (refl, (refl, tt)))))
-plain_rows Big64 = (refl, (refl, (refl, (refl, (refl, (refl, (refl, (refl, (refl, (refl, (refl, tt)))))))))))
+plain_rows w = grind arith
 
 module _ (w : CoffForm) (n : Object) (is : IsForCoff w n) where
   abbrev shows : IsShown n (shown n)
@@ -341,18 +288,10 @@ module _ (w : CoffForm) (n : Object) (is : IsForCoff w n) where
       ∙ ap not (false_from_ne_true (is_key n s) (λ t. not_key s.binding refl e t))
     where
       outer : (b : Binding) → is_weak_with has_default b ≡ true → is_outer b ≡ true
-      outer (Local v) e = absurd (true≢false (sym e))
-      outer (Global v) e = refl
-      outer Undefined e = refl
-      outer (Common size align) e = refl
-      outer (Weak f) e = refl
+      outer b e = grind arith
 
       not_key : (b : Binding) → s.binding ≡ b → is_weak_with has_default b ≡ true → is_key n s ≡ true → ⊥
-      not_key (Weak f) own e t = true≢false (sym t ∙ ap (λ c. option_map_or (λ (place : Place). is_key_at n place.0 s) (global_place c) false) own)
-      not_key (Local v) own e t = true≢false (sym e)
-      not_key (Global v) own e t = true≢false (sym e)
-      not_key Undefined own e t = true≢false (sym e)
-      not_key (Common size align) own e t = true≢false (sym e)
+      not_key b own e t = grind arith
 
   -- ... names
 
@@ -476,10 +415,7 @@ module _ (w : CoffForm) (n : Object) (is : IsForCoff w n) where
       ∙ sym (map_append line_again first (locals ++ (defaults ++ others)))
 
   size_again : (x : Line) → line_size (line_again x) ≡ line_size x
-  size_again (SectionLine k s) = refl
-  size_again (LocalLine k s) = refl
-  size_again (DefaultLine k s) = refl
-  size_again (OuterLine k s) = ap (λ (b : Bool). cond b 2 1) (weak_same n (shown n) s.binding)
+  size_again x = grind arith
 
   numbered_again : numbered_lines w a ≡ map (laid_as line_again) (numbered_lines w n)
   numbered_again = ap (laid behind line_size 0) lines_again ∙ laid_map line_again behind behind line_size line_size 0 (lines_of w n) (λ k x h p. refl) (λ k x h. size_again x)
@@ -493,17 +429,10 @@ module _ (w : CoffForm) (n : Object) (is : IsForCoff w n) where
   section_number_again k = ap (place_where (is_section_line k)) numbered_again ∙ place_map line_again (is_section_line k) (is_section_line k) (numbered_lines w n) same
     where
       same : (x : Line) → is_section_line k (line_again x) ≡ is_section_line k x
-      same (SectionLine j s) = refl
-      same (LocalLine j s) = refl
-      same (DefaultLine j s) = refl
-      same (OuterLine j s) = refl
+      same x = grind arith
 
   needs_outer : (b : Binding) → is_weak_with has_default b ≡ true → is_local b ≡ false
-  needs_outer (Local v) e = absurd (true≢false (sym e))
-  needs_outer (Global v) e = refl
-  needs_outer Undefined e = refl
-  needs_outer (Common size align) e = refl
-  needs_outer (Weak f) e = refl
+  needs_outer b e = grind arith
 
   module _ (k : ℕ) (s : Symbol) (here : slice_get n.symbols k ≡ Some s) (outer : is_local s.binding ≡ false) where
     default_number_again : default_number (numbered_lines w a) (new_position (shown n) k) ≡ default_number (numbered_lines w n) k
@@ -607,11 +536,7 @@ module _ (w : CoffForm) (n : Object) (is : IsForCoff w n) where
       }
     where
       strong : (b : Binding) (place : Place) → global_place b ≡ Some place → is_local b ≡ false
-      strong (Local v) place e = absurd (none-some place e)
-      strong (Global v) place e = refl
-      strong Undefined place e = absurd (none-some place e)
-      strong (Common size align) place e = absurd (none-some place e)
-      strong (Weak f) place e = absurd (none-some place e)
+      strong b place e = grind arith
 
   -- a group has one leader
   one_leader : (j k g : ℕ) → group_at n j ≡ Some g → group_at n k ≡ Some g → leads n j ≡ true → leads n k ≡ true → j ≡ k
@@ -756,34 +681,19 @@ module _ (w : CoffForm) (n : Object) (is : IsForCoff w n) where
   raw_place_again k = ap (place_where (is_raw k)) laid_again ∙ place_map part_again (is_raw k) (is_raw k) (laid_parts w n) same
     where
       same : (x : Part) → is_raw k (part_again x) ≡ is_raw k x
-      same FileHead = refl
-      same SectionHeads = refl
-      same (Raw j s) = refl
-      same (Relocs j s) = refl
-      same SymbolTable = refl
-      same StringTable = refl
+      same x = grind arith
 
   relocs_place_again : (k : ℕ) → place_where (is_relocs k) (laid_parts w a) ≡ place_where (is_relocs k) (laid_parts w n)
   relocs_place_again k = ap (place_where (is_relocs k)) laid_again ∙ place_map part_again (is_relocs k) (is_relocs k) (laid_parts w n) same
     where
       same : (x : Part) → is_relocs k (part_again x) ≡ is_relocs k x
-      same FileHead = refl
-      same SectionHeads = refl
-      same (Raw j s) = refl
-      same (Relocs j s) = refl
-      same SymbolTable = refl
-      same StringTable = refl
+      same x = grind arith
 
   table_place_again : place_where is_symbol_table (laid_parts w a) ≡ place_where is_symbol_table (laid_parts w n)
   table_place_again = ap (place_where is_symbol_table) laid_again ∙ place_map part_again is_symbol_table is_symbol_table (laid_parts w n) same
     where
       same : (x : Part) → is_symbol_table (part_again x) ≡ is_symbol_table x
-      same FileHead = refl
-      same SectionHeads = refl
-      same (Raw j s) = refl
-      same (Relocs j s) = refl
-      same SymbolTable = refl
-      same StringTable = refl
+      same x = grind arith
 
   -- ... section headers
 

@@ -19,7 +19,7 @@ use Rattle.oc_neutral.specs.TargetSections as sections_of_target
 use Rattle.oc_target.proofs.{MeetsConditions.{AreMet, section_met, reloc_met}, MeetsRelocs.{normal_of}, SeenLaws.{seen_is_object_law}}
 use Rattle.oc_target.proofs.SeenReady.{IsReady, coff_ready}
 use Rattle.oc_shows.proofs.SeenLines.{IsShown}
-use Rattle.oc_coff.specs.{declared.form.CoffForm.{CoffForm}, declared.form.CoffForm.TheVariants.{Usual32, Usual64, Big32, Big64}, Forms.{format_of, word_of}}
+use Rattle.oc_coff.specs.{declared.form.CoffForm.{CoffForm}, Forms.{format_of, word_of}}
 use Rattle.oc_coff_file.proofs.{CodedLaws.{IsForCoff, for_coff}, SeenLaws.{shown, again, again_is, are_shown}}
 use Rattle.oc_canonical.proofs.{CoffAgain.{plain_rows, offset_same, key_again}, SeenFitted.{FamilyStays, seen_fitted}}
 use Rattle.oc_canonical.proofs.StaysLemmas.{sections_long, target_stays, plain_row}
@@ -27,16 +27,10 @@ use Rattle.oc_elf_file.proofs.{TableClean.{none_right}, HeaderClean.{within_file
 use Rattle.oc_neutral.proofs.GivenLaws.{same_kind-self}
 
 family_whole : (w : CoffForm) → family_of (format_of w) ≡ coff_family (word_of w)
-family_whole Usual32 = refl
-family_whole Usual64 = refl
-family_whole Big32 = refl
-family_whole Big64 = refl
+family_whole w = grind arith
 
 least_none : (w : CoffForm) → (section_range (format_of w)).least ≡ 0
-least_none Usual32 = refl
-least_none Usual64 = refl
-least_none Big32 = refl
-least_none Big64 = refl
+least_none w = grind arith
 
 -- a group with a key symbol has one
 key_told : (n : Object) (g : ℕ) → HasKeySymbol n g → has_key_symbol n g ≡ true

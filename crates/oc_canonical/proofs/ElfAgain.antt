@@ -1,13 +1,12 @@
 -- The canonical ELF file of what is seen of an object is that of the object.
-use Rattle.std.proofs.Common.{◌≡◌, ℕ, ◌*◌, Bool, true, false, cond, not, eqb, ◌&&◌, List, [], ◌∷◌, ◌++◌, length, map, Option, Some, None, refl, sym, ◌∙◌, ap, append-nil}
+use Rattle.std.proofs.Common.{◌≡◌, ℕ, ◌*◌, Bool, true, false, cond, not, eqb, ◌&&◌, List, [], ◌∷◌, ◌++◌, length, map, Option, Some, None, refl, sym, ◌∙◌, ap, append-nil, arith}
 use mathlib.Core.Path.{fun_ext}
 use Rattle.std.specs.{Prelude.{slice_get, filter, filter_map, flat_map, replicate, bytes_eq}, List.{enumerate_from}}
 use Rattle.std.specs.{Option.{option_map, option_map_or, option_and_then}, Cmp.{first_so}}
 use Rattle.std.proofs.lemmas.{Bool.{true≢false, not_from_false}, List.{length-map}}
 use Rattle.oc_base.specs.{declared.format.Word.TheVariants.{W32, W64}, declared.format.Format.TheVariants.{Elf32}, declared.format.Word.{Word}}
 use Rattle.oc_linking.specs.{declared.terms.Mark.{Mark}, declared.terms.Value.{Value}, declared.terms.Fallback.{Fallback}, declared.terms.Binding.{Binding}}
-use Rattle.oc_linking.specs.{declared.terms.Binding.TheVariants.{Local, Global, Undefined, Common, Weak}, declared.terms.Patch.{Patch}, Images.{overlay}}
-use Rattle.oc_linking.specs.Parts.{is_local}
+use Rattle.oc_linking.specs.{declared.terms.Binding.TheVariants.{Weak}, declared.terms.Patch.{Patch}, Images.{overlay}, Parts.{is_local}}
 use Rattle.oc_linking.specs.declared.terms.Value.TheVariants as value
 use Rattle.oc_linking.specs.declared.terms.Fallback.TheVariants as fallback
 use Rattle.oc_algebra.specs.{Fields.{to_field_of}, Residues.{residue_of}}
@@ -26,11 +25,10 @@ use Rattle.oc_target.proofs.{MeetsRelocs.{normal_of}, SeenReady.{IsReady, elf_re
 use Rattle.oc_shows.proofs.{SeenAlike.{relocs_same, seen_local}, SeenLines.{IsShown}, FoundLaws.{found_in}}
 use Rattle.oc_shelf.specs.Writing.Parts.{Laid, laid, behind, aligned, joined, place_where}
 use Rattle.oc_shelf.proofs.WritingLaws.MemberLemmas.{map-map, map-alike, member_map, filter_map-map, filter_map-results}
-use Rattle.oc_elf.specs.{declared.class.ElfClass.{ElfClass}, declared.class.ElfClass.TheVariants.{Class32, Class64, Big32, Big64}}
+use Rattle.oc_elf.specs.declared.class.ElfClass.{ElfClass}
 use Rattle.oc_elf.specs.{declared.constants.TheConstants.{ELFDATA2LSB, EV_CURRENT, ET_REL, GRP_COMDAT, GRP_ENTRY_SIZE, SHNDX_SIZE}, declared.ehdr.Ehdr.{Ehdr}}
 use Rattle.oc_elf.specs.{declared.shdr.Shdr.{Shdr}, declared.sym.Sym.{Sym}, declared.rel.Rel.{Rel}, Classes.{format_of, machine_of, is_big, word_of}}
-use Rattle.oc_elf.specs.{Ehdr.{ehdr_size}, Shdr.{shdr_size, null_shdr}, Sym.{sym_size}, Rel.{rel_size}}
-use Rattle.oc_elf.specs.Structures.{ehdr_bytes, shdr_bytes, sym_bytes, index_bytes, rel_bytes}
+use Rattle.oc_elf.specs.{Ehdr.{ehdr_size}, Shdr.{shdr_size, null_shdr}, Sym.{sym_size}, Rel.{rel_size}, Structures.{sym_bytes, index_bytes, rel_bytes}}
 use Rattle.oc_elf_file.specs.Heads.{Head, NullHead, GroupHead, SectionHead, RelocHead, SymtabHead, ShndxHead, StrtabHead, ShstrtabHead, placed_sections, group_head, section_head, reloc_head, group_heads, section_heads, reloc_heads, table_heads_by, table_heads, heads_of, head_size, numbered_heads, head_where, is_group_head, is_section_head, is_symtab_head, is_strtab_head, is_shstrtab_head, group_number, section_number, head_name}
 use Rattle.oc_elf_file.specs.Lines.{Line, NullLine, SectionLine, SignatureLine, LocalLine, OuterLine, section_lines, signature_lines, lines_where, inner_lines, outer_lines, lines_of, line_size, numbered_lines, is_section_line, is_signature_line, own_number, symbol_number, signature_number, line_name}
 use Rattle.oc_elf_file.specs.Groups.{is_member_head, member_number, group_words, group_bytes}
@@ -47,37 +45,18 @@ use Rattle.oc_linking.proofs.LawProofs.{not-true}
 
 -- every Local is written
 written : (class : ElfClass) (name : List ℕ) (b : Binding) → (is_local b && is_written_as (format_of class) name b) ≡ is_local b
-written Class32 name (Local v) = refl
-written Class64 name (Local v) = refl
-written Big32 name (Local v) = refl
-written Big64 name (Local v) = refl
-written class name (Global v) = refl
-written class name Undefined = refl
-written class name (Common size align) = refl
-written class name (Weak f) = refl
+written class name b = grind arith
 
 -- ... what a symbol says
 
 size_same : (n : Object) (shown : List (ℕ × ℕ)) (b : Binding) (size : ℕ) → elf_size (seen_binding elf_manner n shown b) (elf_size b size) ≡ elf_size b size
-size_same n shown (Local v) size = refl
-size_same n shown (Global v) size = refl
-size_same n shown Undefined size = refl
-size_same n shown (Common own align) size = refl
-size_same n shown (Weak f) size = refl
+size_same n shown b size = grind arith
 
 bind_same : (n : Object) (shown : List (ℕ × ℕ)) (b : Binding) → bind_by (seen_binding elf_manner n shown b) ≡ bind_by b
-bind_same n shown (Local v) = refl
-bind_same n shown (Global v) = refl
-bind_same n shown Undefined = refl
-bind_same n shown (Common size align) = refl
-bind_same n shown (Weak f) = refl
+bind_same n shown b = grind arith
 
 mark_same : (n : Object) (shown : List (ℕ × ℕ)) (b : Binding) (mark : Mark) → elf_mark (seen_binding elf_manner n shown b) (elf_mark b mark) ≡ elf_mark b mark
-mark_same n shown (Local v) mark = refl
-mark_same n shown (Global v) mark = refl
-mark_same n shown Undefined mark = refl
-mark_same n shown (Common size align) mark = refl
-mark_same n shown (Weak f) mark = refl
+mark_same n shown b mark = grind arith
 
 -- an entry of the symbol table
 abbrev entry_as : ℕ → ValueFields → ℕ → ℕ → ℕ → Sym
@@ -164,8 +143,7 @@ module _ (class : ElfClass) (n : Object) (is : IsForElf class n) where
     fails_kept s e = by (test s) refl
       where
         by : (b : Bool) → test s ≡ b → b ≡ false
-        by true t = absurd (true≢false (sym (sym (kept_is s) ∙ e) ∙ out s t))
-        by false t = refl
+        by b t = grind arith
 
     outers_all : filter (λ (x : ℕ × Symbol). test x.1) (shown_ones n (shown n)) ≡ filter (λ (x : ℕ × Symbol). test x.1) placed_symbols
     outers_all =
@@ -253,21 +231,13 @@ module _ (class : ElfClass) (n : Object) (is : IsForElf class n) where
   own_number_again k = ap (place_where (is_section_line k)) numbered_lines_again ∙ place_map line_again (is_section_line k) (is_section_line k) (numbered_lines n) same
     where
       same : (x : Line) → is_section_line k (line_again x) ≡ is_section_line k x
-      same NullLine = refl
-      same (SectionLine j s) = refl
-      same (SignatureLine j g) = refl
-      same (LocalLine j s) = refl
-      same (OuterLine j s) = refl
+      same x = grind arith
 
   signature_number_again : (k : ℕ) (g : Group) → signature_number (numbered_lines a) k g ≡ signature_number (numbered_lines n) k g
   signature_number_again k g = ap (place_where (is_signature_line k g.key)) numbered_lines_again ∙ place_map line_again (is_signature_line k g.key) (is_signature_line k g.key) (numbered_lines n) same
     where
       same : (x : Line) → is_signature_line k g.key (line_again x) ≡ is_signature_line k g.key x
-      same NullLine = refl
-      same (SectionLine j s) = refl
-      same (SignatureLine j h) = refl
-      same (LocalLine j s) = refl
-      same (OuterLine j s) = refl
+      same x = grind arith
 
   symbol_number_again : (k : ℕ) (s : Symbol) → slice_get n.symbols k ≡ Some s → is_local s.binding ≡ false
       → symbol_number (numbered_lines a) (new_position (shown n) k) ≡ symbol_number (numbered_lines n) k
@@ -310,12 +280,10 @@ module _ (class : ElfClass) (n : Object) (is : IsForElf class n) where
       ap (λ (c : ℕ). cond (eqb c 0) None (Some (RelocHead x.0 (seen_section elf_manner n x)))) (count_again x.0) ∙ by (eqb (length (list_of n.relocs x.0)) 0)
     where
       by : (b : Bool) → cond b None (Some (RelocHead x.0 (seen_section elf_manner n x))) ≡ option_map head_again (cond b None (Some (RelocHead x.0 x.1)))
-      by true = refl
-      by false = refl
+      by b = grind arith
 
   tables_again : (many : Bool) → table_heads_by many ≡ map head_again (table_heads_by many)
-  tables_again true = refl
-  tables_again false = refl
+  tables_again many = grind arith
 
   heads_again : heads_of a ≡ map head_again (heads_of n)
   unfolding heads_of
@@ -350,66 +318,31 @@ module _ (class : ElfClass) (n : Object) (is : IsForElf class n) where
   section_number_again k = head_where_again (is_section_head k) same
     where
       same : (h : Head) → is_section_head k (head_again h) ≡ is_section_head k h
-      same NullHead = refl
-      same (GroupHead j g) = refl
-      same (SectionHead j s) = refl
-      same (RelocHead j s) = refl
-      same SymtabHead = refl
-      same ShndxHead = refl
-      same StrtabHead = refl
-      same ShstrtabHead = refl
+      same h = grind arith
 
   group_number_again : (k : ℕ) → group_number a k ≡ group_number n k
   group_number_again k = head_where_again (is_group_head k) same
     where
       same : (h : Head) → is_group_head k (head_again h) ≡ is_group_head k h
-      same NullHead = refl
-      same (GroupHead j g) = refl
-      same (SectionHead j s) = refl
-      same (RelocHead j s) = refl
-      same SymtabHead = refl
-      same ShndxHead = refl
-      same StrtabHead = refl
-      same ShstrtabHead = refl
+      same h = grind arith
 
   symtab_again : head_where a is_symtab_head ≡ head_where n is_symtab_head
   symtab_again = head_where_again is_symtab_head same
     where
       same : (h : Head) → is_symtab_head (head_again h) ≡ is_symtab_head h
-      same NullHead = refl
-      same (GroupHead j g) = refl
-      same (SectionHead j s) = refl
-      same (RelocHead j s) = refl
-      same SymtabHead = refl
-      same ShndxHead = refl
-      same StrtabHead = refl
-      same ShstrtabHead = refl
+      same h = grind arith
 
   strtab_again : head_where a is_strtab_head ≡ head_where n is_strtab_head
   strtab_again = head_where_again is_strtab_head same
     where
       same : (h : Head) → is_strtab_head (head_again h) ≡ is_strtab_head h
-      same NullHead = refl
-      same (GroupHead j g) = refl
-      same (SectionHead j s) = refl
-      same (RelocHead j s) = refl
-      same SymtabHead = refl
-      same ShndxHead = refl
-      same StrtabHead = refl
-      same ShstrtabHead = refl
+      same h = grind arith
 
   shstrtab_again : head_where a is_shstrtab_head ≡ head_where n is_shstrtab_head
   shstrtab_again = head_where_again is_shstrtab_head same
     where
       same : (h : Head) → is_shstrtab_head (head_again h) ≡ is_shstrtab_head h
-      same NullHead = refl
-      same (GroupHead j g) = refl
-      same (SectionHead j s) = refl
-      same (RelocHead j s) = refl
-      same SymtabHead = refl
-      same ShndxHead = refl
-      same StrtabHead = refl
-      same ShstrtabHead = refl
+      same h = grind arith
 
   -- ... names
 
@@ -420,21 +353,10 @@ module _ (class : ElfClass) (n : Object) (is : IsForElf class n) where
       ∙ ap (filter is_named) (map-map line_name line_again (lines_of n) ∙ map-alike (λ x. line_name (line_again x)) line_name (lines_of n) (λ k x h. same x))
     where
       same : (x : Line) → line_name (line_again x) ≡ line_name x
-      same NullLine = refl
-      same (SectionLine j s) = refl
-      same (SignatureLine j g) = refl
-      same (LocalLine j s) = refl
-      same (OuterLine j s) = refl
+      same x = grind arith
 
   head_name_again : (h : Head) → head_name class (head_again h) ≡ head_name class h
-  head_name_again NullHead = refl
-  head_name_again (GroupHead j g) = refl
-  head_name_again (SectionHead j s) = refl
-  head_name_again (RelocHead j s) = refl
-  head_name_again SymtabHead = refl
-  head_name_again ShndxHead = refl
-  head_name_again StrtabHead = refl
-  head_name_again ShstrtabHead = refl
+  head_name_again h = grind arith
 
   head_names_again : head_names class a ≡ head_names class n
   unfolding head_names
@@ -465,11 +387,7 @@ module _ (class : ElfClass) (n : Object) (is : IsForElf class n) where
       ∙ sym (ap (λ o. option_map_or (λ (place : Place). value_fields_at n place.0 place.1) o value_fields_elsewhere) at)
 
   binding_again : (b : Binding) → ((k : ℕ) → b ≡ Weak (fallback.Name k) → IsSteadyAt n k) → value_fields_of a (seen_binding elf_manner n (shown n) b) ≡ value_fields_of n b
-  binding_again (Local v) steady = value_again v
-  binding_again (Global v) steady = value_again v
-  binding_again Undefined steady = refl
-  binding_again (Common size align) steady = refl
-  binding_again (Weak f) steady = fallback_again f (λ k e. steady k (ap Weak e))
+  binding_again b steady = grind (arith, value_again, fallback_again)
 
   symbol_again : (k number : ℕ) (s : Symbol) → slice_get n.symbols k ≡ Some s → symbol_entry a (seen_symbol elf_manner n (shown n) number s) ≡ symbol_entry n s
   symbol_again k number s here =
@@ -577,14 +495,7 @@ module _ (class : ElfClass) (n : Object) (is : IsForElf class n) where
       ∙ ap (λ f. filter_map f (numbered_heads n)) (fun_ext (λ (l : Laid Head). ap (λ b. cond b (Some l.at) None) (same l.part))))
     where
       same : (h : Head) → is_member_head g (head_again h) ≡ is_member_head g h
-      same NullHead = refl
-      same (GroupHead j x) = refl
-      same (SectionHead j s) = refl
-      same (RelocHead j s) = refl
-      same SymtabHead = refl
-      same ShndxHead = refl
-      same StrtabHead = refl
-      same ShstrtabHead = refl
+      same h = grind arith
 
   -- ... parts
 
@@ -604,21 +515,10 @@ module _ (class : ElfClass) (n : Object) (is : IsForElf class n) where
   part_again HeadTable = HeadTable
 
   align_again : (x : Part) → part_align class (part_again x) ≡ part_align class x
-  align_again FileHead = refl
-  align_again (Body NullHead) = refl
-  align_again (Body (GroupHead k g)) = refl
-  align_again (Body (SectionHead k s)) = refl
-  align_again (Body (RelocHead k s)) = refl
-  align_again (Body SymtabHead) = refl
-  align_again (Body ShndxHead) = refl
-  align_again (Body StrtabHead) = refl
-  align_again (Body ShstrtabHead) = refl
-  align_again HeadTable = refl
+  align_again x = grind arith
 
   size_again : (x : Part) → part_size class a (part_again x) ≡ part_size class n x
-  size_again FileHead = refl
-  size_again (Body h) = body_size_again h
-  size_again HeadTable = ap (λ count. shdr_size (word_of class) * count) (ap length heads_again ∙ length-map (heads_of n) head_again)
+  size_again x = grind (arith, body_size_again, heads_again, length-map)
 
   parts_again : parts_of a ≡ map part_again (parts_of n)
   unfolding parts_of
@@ -662,9 +562,7 @@ module _ (class : ElfClass) (n : Object) (is : IsForElf class n) where
       ∙ ap (λ f. filter_map f (laid_parts class n)) (fun_ext (λ (l : Laid Part). same l.at l.part))
     where
       same : (at : ℕ) (x : Part) → part_header class a (record { at = at; part = part_again x }) ≡ part_header class n (record { at = at; part = x })
-      same at FileHead = refl
-      same at (Body h) = ap Some (shdr_again at h)
-      same at HeadTable = refl
+      same at x = grind (arith, shdr_again)
 
   zero_again : zero_shdr class a ≡ zero_shdr class n
   zero_again =
@@ -681,9 +579,7 @@ module _ (class : ElfClass) (n : Object) (is : IsForElf class n) where
   table_again = ap (place_where is_head_table) laid_again ∙ place_map part_again is_head_table is_head_table (laid_parts class n) same
     where
       same : (x : Part) → is_head_table (part_again x) ≡ is_head_table x
-      same FileHead = refl
-      same (Body h) = refl
-      same HeadTable = refl
+      same x = grind arith
 
   file_header_again : file_header class a ≡ file_header class n
   unfolding file_header
@@ -720,9 +616,7 @@ module _ (class : ElfClass) (n : Object) (is : IsForElf class n) where
 
   bytes_again : (x : Part) → part_bytes class a (part_again x) ≡ part_bytes class n x
   unfolding part_bytes
-  bytes_again FileHead = ap (ehdr_bytes (word_of class)) file_header_again
-  bytes_again (Body h) = body_again h
-  bytes_again HeadTable = ap (flat_map (shdr_bytes (word_of class))) stored_again
+  bytes_again x = grind (arith, file_header_again, body_again, stored_again)
 
   pub elf_file_again : elf_file class (seen n) ≡ elf_file class n
   unfolding elf_file

@@ -1,5 +1,5 @@
 -- What is seen of an object that is ready for ELF is ready for ELF.
-use Rattle.std.proofs.Common.{◌≡◌, ℕ, ◌+◌, ◌-◌, ◌^◌, ◌<◌, ◌≤◌, Bool, true, false, cond, not, ◌&&◌, ◌||◌, nat_lt, nat_le, [], length, count_by, is_none, is_err, Some, None, ℤ, refl, sym, ◌∙◌, ap, subst, arith}
+use Rattle.std.proofs.Common.{◌≡◌, ℕ, ◌+◌, ◌-◌, ◌^◌, ◌<◌, ◌≤◌, Bool, true, false, cond, not, ◌&&◌, ◌||◌, nat_le, [], length, count_by, is_none, is_err, Some, None, ℤ, refl, sym, ◌∙◌, ap, subst, arith}
 use Rattle.std.proofs.lemmas.Bool.{or_parts, or_from}
 use mathlib.Core.Path.{fun_ext}
 use Rattle.std.specs.{Prelude.{slice_get}, List.{range_with_len}, Option.{option_map_or, option_and_then}}
@@ -30,10 +30,7 @@ use Rattle.oc_canonical.proofs.StaysLemmas.{none_member, sections_long, relocate
 use Rattle.oc_neutral.proofs.GivenLaws.{same_kind-self}
 
 family_whole : (class : ElfClass) → family_of (format_of class) ≡ elf_family (is_many (format_of class)) (word_of class)
-family_whole Class32 = refl
-family_whole Class64 = refl
-family_whole Big32 = refl
-family_whole Big64 = refl
+family_whole class = grind arith
 
 module _ (class : ElfClass) (n : Object) (fits : IsFitted (format_of class) n) where
   is : IsForElf class n
@@ -91,8 +88,7 @@ module _ (class : ElfClass) (n : Object) (fits : IsFitted (format_of class) n) w
       ∙ same_kind-self (kind_of s)
     where
       allocated : (b c : Bool) → (b ≡ true → c ≡ true) → (not b || c) ≡ true
-      allocated true c e = e refl
-      allocated false c e = refl
+      allocated b c e = grind arith
 
   name : (k : ℕ) (s : Section) → slice_get n.sections k ≡ Some s → (family_of target).lacks_name (output_names target a) a s.name (seen_section elf_manner n (k, s)) ≡ false
   unfolding section_conditions

@@ -1,5 +1,5 @@
 -- The first bytes of a canonical file tell its format.
-use Rattle.std.proofs.Common.{◌≡◌, ℕ, ◌≤◌, Bool, true, false, cond, not, ◌&&◌, ◌||◌, eqb, nat_le, List, length, Some, refl, ◌∙◌, ap}
+use Rattle.std.proofs.Common.{◌≡◌, ℕ, ◌≤◌, Bool, true, false, cond, not, ◌&&◌, ◌||◌, eqb, nat_le, List, length, Some, refl, ◌∙◌, ap, arith}
 use Rattle.oc_base.specs.{declared.format.Word.{Word}, declared.format.Word.TheVariants.{W32, W64}}
 use Rattle.oc_base.specs.{declared.format.Format.TheVariants.{Elf32, Elf64, Omf, BigElf32, BigElf64}, Numbers.{bytes_of_number}}
 use Rattle.oc_neutral.specs.{KindRules.{begins}, Objects.{Object}}
@@ -37,9 +37,7 @@ abbrev stand_elsewhere : ElfClass → ℕ → Ehdr → Bool
 stand_elsewhere class size h = nat_le (ehdr_size (word_of class)) size && not (eqb h.e_shoff 0) && (eqb h.e_shnum 0 || eqb h.e_shstrndx SHN_XINDEX)
 
 none_stands : (a b : Bool) → (a && b && false) ≡ false
-none_stands true true = refl
-none_stands true false = refl
-none_stands false b = refl
+none_stands a b = grind arith
 
 module _ (class : ElfClass) (n : Object) (is : IsForElf class n) where
   abbrev file : List ℕ
@@ -123,8 +121,7 @@ coff_known form.Big64 n = refl
 
 pub mach_known : (w : Word) (n : Object) → identified (mach_file w n) ≡ Some (mach_format w)
 unfolding identified mach_file mach_layout.parts_of mach_canonical.part_bytes mach.mach_header_bytes mach_canonical.file_header bytes_of_number
-mach_known W32 n = refl
-mach_known W64 n = refl
+mach_known w n = grind arith
 
 pub omf_known : (n : Object) → identified (omf_file n) ≡ Some Omf
 unfolding identified omf_file omf_outputs.outputs_of omf.entry_bytes bytes_of_number

@@ -6,8 +6,8 @@ use Rattle.std.specs.{List.{AllByRecursion, enumerate_from, list_any, range_with
 use Rattle.std.proofs.lemmas.{Bool.{true≢false, and_parts, false_from_ne_true}, Int.{ints}, List.{length-map}, Option.{none-some}}
 use Rattle.oc_base.specs.{declared.format.Word.{Word}, declared.format.Word.TheVariants.{W32, W64}, Formats.{word_for}}
 use Rattle.oc_linking.specs.{declared.terms.Hint.{Hint}, declared.terms.Hint.TheVariants.{Call}, declared.terms.Less.{Less}}
-use Rattle.oc_linking.specs.{declared.terms.Visibility.{Visibility}, declared.terms.Visibility.TheVariants.{Default, Internal, Hidden, Protected}}
-use Rattle.oc_linking.specs.{declared.terms.Value.{Value}, declared.terms.Fallback.{Fallback}, declared.terms.Binding.{Binding}}
+use Rattle.oc_linking.specs.{declared.terms.Visibility.{Visibility}, declared.terms.Visibility.TheVariants.{Default}, declared.terms.Value.{Value}}
+use Rattle.oc_linking.specs.{declared.terms.Fallback.{Fallback}, declared.terms.Binding.{Binding}}
 use Rattle.oc_linking.specs.{declared.terms.Binding.TheVariants.{Local, Global, Undefined, Common, Weak}, declared.terms.Patch.{Patch}, Images.{overlay}}
 use Rattle.oc_linking.specs.{Parts.{is_local}, Numbers.{modulus}}
 use Rattle.oc_linking.specs.declared.terms.Less.TheVariants as less
@@ -33,22 +33,21 @@ use Rattle.oc_shows.specs.SymbolLines.{one, is_defined, is_undefined, is_weak_wi
 use Rattle.oc_shows.specs.SymbolLines as table
 use Rattle.oc_target.proofs.{MeetsRelocs.{normal_of}, SeenReady.{IsReady, mach_ready}}
 use Rattle.oc_shows.proofs.{SeenAlike.{relocs_same, seen_local, stands}, SeenLines.{IsShown}, FoundLaws.{found_in}}
-use Rattle.oc_shelf.specs.{Writing.Packed.{packed}, Writing.Parts.{Laid, laid, laid_end, behind, aligned, joined, place_where}}
+use Rattle.oc_shelf.specs.{Writing.Packed.{packed}, Writing.Parts.{Laid, laid, laid_end, behind, joined, place_where}}
 use Rattle.oc_shelf.proofs.{WritingLaws.MemberLemmas.{map-map, map-alike, of_enumerated}, WritingLaws.PartLemmas.{laid_part}}
-use Rattle.oc_macho.specs.declared.constants.TheConstants.{MH_OBJECT, LC_DYSYMTAB, N_SECT, N_WEAK_REF, N_WEAK_DEF}
-use Rattle.oc_macho.specs.{declared.load_command.TheConstants.{DYSYMTAB_COMMAND_SIZE}, declared.symtab_command.TheConstants.{SYMTAB_COMMAND_SIZE}}
-use Rattle.oc_macho.specs.{declared.names.TheConstants.{NAME_SIZE}, SegmentCommand.{segment_number, segment_command_size}}
-use Rattle.oc_macho.specs.{declared.relocation_info.TheConstants.{RELOCATION_INFO_SIZE}, declared.relocation_info.RelocationInfo.{RelocationInfo}}
+use Rattle.oc_macho.specs.{declared.constants.TheConstants.{MH_OBJECT, LC_DYSYMTAB, N_SECT}, declared.load_command.TheConstants.{DYSYMTAB_COMMAND_SIZE}}
+use Rattle.oc_macho.specs.{declared.symtab_command.TheConstants.{SYMTAB_COMMAND_SIZE}, declared.names.TheConstants.{NAME_SIZE}}
+use Rattle.oc_macho.specs.{SegmentCommand.{segment_number, segment_command_size}, declared.relocation_info.RelocationInfo.{RelocationInfo}}
 use Rattle.oc_macho.specs.{declared.mach_header.MachHeader.{MachHeader}, declared.section_header.SectionHeader.{SectionHeader}}
 use Rattle.oc_macho.specs.{declared.symtab_command.SymtabCommand.{SymtabCommand}, declared.nlist.Nlist.{Nlist}}
-use Rattle.oc_macho.specs.{MachHeader.{address_size, cpu_type, mach_format, mach_header_size}, SectionHeader.{section_header_size}, Nlist.{nlist_size}}
+use Rattle.oc_macho.specs.{MachHeader.{address_size, cpu_type, mach_format, mach_header_size}, SectionHeader.{section_header_size}}
 use Rattle.oc_macho.specs.declared.constants.TheConstants.{COMMAND_COUNT, CPU_SUBTYPE_ALL, VM_PROT_ALL}
 use Rattle.oc_macho.specs.Structures.{magic_of, padded, mach_header_bytes, symtab_bytes, section_bytes, nlist_bytes, relocation_bytes}
 use Rattle.oc_macho.specs.declared.relocation_info.Reference.TheVariants as reference
 use Rattle.oc_macho_file.specs.Addresses.{Numbered, is_blank, stored_sections, blank_sections, section_begin, size_of, mapped, is_at, address_of, memory_end, stored_end}
 use Rattle.oc_macho_file.specs.Lines.{Line, OwnLine, LocalLine, OuterLine, own_lines, lines_where, local_lines, inner_lines, defined_lines, undefined_lines, lines_of, line_size, numbered_lines, is_own_line, is_symbol_line, own_number, symbol_number, line_name}
 use Rattle.oc_macho_file.specs.Bodies.{WrittenReloc, taken_section, end_address, end_section_address, entry_target_of, alone_shift, pair_shift, field_shift, number_or, field_number, written_reloc_at, field_patch, field_patches, raw_of, reference_to, plain_entry, scattered_entry, pair_entries, standing_entries, entries_at, entries_of}
-use Rattle.oc_macho_file.specs.Layout.{Part, FileHead, SegmentHead, SectionHeads, SymtabHead, DysymtabHead, Raw, Relocs, SymbolTable, StringTable, raw_part, relocs_part, head_parts, table_parts, parts_of, commands_length, contents_begin, relocs_of, line_names, offset_in, strings_of, filled, string_table, part_size, entries_align, part_begin, laid_parts, part_where, is_raw, is_relocs, is_symbol_table, is_string_table}
+use Rattle.oc_macho_file.specs.Layout.{Part, FileHead, SegmentHead, SectionHeads, SymtabHead, DysymtabHead, Raw, Relocs, SymbolTable, StringTable, raw_part, relocs_part, head_parts, table_parts, parts_of, commands_length, contents_begin, relocs_of, line_names, offset_in, strings_of, filled, string_table, part_size, part_begin, laid_parts, part_where, is_raw, is_relocs, is_symbol_table, is_string_table}
 use Rattle.oc_macho_file.specs.Symbols.{exponent_of, ValueFields, value_fields_at, value_fields_by, value_fields_for, value_fields_of, external_flag, private_flag, desc_by, symbol_entry, line_entry}
 use Rattle.oc_macho_file.specs.Canonical.{file_header, segment_numbers, pointer_to, section_header, section_headers, symtab_command, words, dysymtab_numbers, part_bytes, mach_file}
 use Rattle.oc_macho_file.proofs.{CodedLaws.{IsForMach, IsPlaced, word_back, fallback_is}, LineLaws.{IsLine, line_at}, RowLaws.{IsKnown, KnownAlone, KnownPair}}
@@ -57,7 +56,6 @@ use Rattle.oc_macho_file.proofs.SeenLaws.{shown, again, again_is, are_shown}
 use Rattle.oc_canonical.proofs.MapLemmas.{enumerate_map, filter-append, filter-mapped, filter-within, filter-apart, filter-same, flat_map-mapped, lists_map, map_append, any_mapped, laid_as, laid_map, laid_end_map, place_map, place_map_in, joined_map}
 use Rattle.oc_canonical.proofs.SeenSymbols.{shown_ones, gathered, ones_gathered, gathered_append, gathered_silent, gathered_where, moved, all_moved, outer_tell}
 use Rattle.oc_canonical.proofs.StaysLemmas.{sections_long, plain_row}
-use Rattle.oc_linking.proofs.LawProofs.{not-true}
 
 -- ... parts of a list by tests, of which no two hold of one
 
@@ -99,39 +97,19 @@ rank (Common size align) = 3
 rank (Weak f) = cond (weak.is_zero f) 4 1
 
 local_rank : (b : Binding) → is_local b ≡ true → rank b ≡ 0
-local_rank (Local v) e = refl
-local_rank (Global v) e = absurd (true≢false (sym e))
-local_rank Undefined e = absurd (true≢false (sym e))
-local_rank (Common size align) e = absurd (true≢false (sym e))
-local_rank (Weak f) e = absurd (true≢false (sym e))
+local_rank b e = grind arith
 
 defined_rank : (b : Binding) → is_defined b ≡ true → rank b ≡ 1
-defined_rank (Local v) e = absurd (true≢false (sym e))
-defined_rank (Global v) e = refl
-defined_rank Undefined e = absurd (true≢false (sym e))
-defined_rank (Common size align) e = absurd (true≢false (sym e))
-defined_rank (Weak f) e = ap (λ b. cond b 4 1) (not-true (weak.is_zero f) e)
+defined_rank b e = grind arith
 
 undefined_rank : (b : Binding) → is_undefined b ≡ true → rank b ≡ 2
-undefined_rank (Local v) e = absurd (true≢false (sym e))
-undefined_rank (Global v) e = absurd (true≢false (sym e))
-undefined_rank Undefined e = refl
-undefined_rank (Common size align) e = absurd (true≢false (sym e))
-undefined_rank (Weak f) e = absurd (true≢false (sym e))
+undefined_rank b e = grind arith
 
 common_rank : (b : Binding) → is_common b ≡ true → rank b ≡ 3
-common_rank (Local v) e = absurd (true≢false (sym e))
-common_rank (Global v) e = absurd (true≢false (sym e))
-common_rank Undefined e = absurd (true≢false (sym e))
-common_rank (Common size align) e = refl
-common_rank (Weak f) e = absurd (true≢false (sym e))
+common_rank b e = grind arith
 
 weak_rank : (b : Binding) → is_weak_with weak.is_zero b ≡ true → rank b ≡ 4
-weak_rank (Local v) e = absurd (true≢false (sym e))
-weak_rank (Global v) e = absurd (true≢false (sym e))
-weak_rank Undefined e = absurd (true≢false (sym e))
-weak_rank (Common size align) e = absurd (true≢false (sym e))
-weak_rank (Weak f) e = ap (λ b. cond b 4 1) e
+weak_rank b e = grind arith
 
 -- a test of symbols of one rank
 abbrev IsRanked : (Symbol → Bool) → ℕ → Type 0
@@ -152,77 +130,40 @@ module _ (w : Word) (n : Object) (sh : List (ℕ × ℕ)) where
   zero_same (fallback.Name k) = by (place_at n k)
     where
       by : (o : Option Place) → weak.is_zero (option_map_or (λ (place : Place). fallback.Place place.0 place.1) o (fallback.Name (new_position sh k))) ≡ false
-      by None = refl
-      by (Some p) = refl
+      by o = grind arith
 
   place_same : (b : Binding) → global_place (bound b) ≡ global_place b
-  place_same (Local v) = refl
-  place_same (Global v) = refl
-  place_same Undefined = refl
-  place_same (Common size align) = refl
-  place_same (Weak f) = refl
+  place_same b = grind arith
 
   defined_same : (b : Binding) → is_defined (bound b) ≡ is_defined b
-  defined_same (Local v) = refl
-  defined_same (Global v) = refl
-  defined_same Undefined = refl
-  defined_same (Common size align) = refl
-  defined_same (Weak f) = ap not (zero_same f)
+  defined_same b = grind arith
 
   undefined_same : (b : Binding) → is_undefined (bound b) ≡ is_undefined b
-  undefined_same (Local v) = refl
-  undefined_same (Global v) = refl
-  undefined_same Undefined = refl
-  undefined_same (Common size align) = refl
-  undefined_same (Weak f) = refl
+  undefined_same b = grind arith
 
   common_same : (b : Binding) → is_common (bound b) ≡ is_common b
-  common_same (Local v) = refl
-  common_same (Global v) = refl
-  common_same Undefined = refl
-  common_same (Common size align) = refl
-  common_same (Weak f) = refl
+  common_same b = grind arith
 
   weak_same : (b : Binding) → is_weak_with weak.is_zero (bound b) ≡ is_weak_with weak.is_zero b
-  weak_same (Local v) = refl
-  weak_same (Global v) = refl
-  weak_same Undefined = refl
-  weak_same (Common size align) = refl
-  weak_same (Weak f) = zero_same f
+  weak_same b = grind arith
 
   pub written_same : (writes : List ℕ → Value → Bool) (name : List ℕ) (b : Binding) → is_written_by writes name (bound b) ≡ is_written_by writes name b
-  written_same writes name (Local v) = refl
-  written_same writes name (Global v) = refl
-  written_same writes name Undefined = refl
-  written_same writes name (Common size align) = refl
-  written_same writes name (Weak f) = refl
+  written_same writes name b = grind arith
 
   external_same : (b : Binding) → external_flag (bound b) ≡ external_flag b
-  external_same (Local v) = refl
-  external_same (Global v) = refl
-  external_same Undefined = refl
-  external_same (Common size align) = refl
-  external_same (Weak f) = refl
+  external_same b = grind arith
 
   desc_same : (b : Binding) → desc_by (bound b) ≡ desc_by b
-  desc_same (Local v) = refl
-  desc_same (Global v) = refl
-  desc_same Undefined = refl
-  desc_same (Common size align) = refl
-  desc_same (Weak f) = ap (λ (b : Bool). cond b N_WEAK_REF N_WEAK_DEF) (zero_same f)
+  desc_same b = grind arith
 
   vis_same : (b : Binding) (own : Visibility) → mach_vis (bound b) (mach_vis b own) ≡ mach_vis b own
   vis_same b own = ap (λ c. cond c (hidden (mach_vis b own)) Default) (defined_same b) ∙ by (is_defined b)
     where
       twice : (v : Visibility) → hidden (hidden v) ≡ hidden v
-      twice Default = refl
-      twice Internal = refl
-      twice Hidden = refl
-      twice Protected = refl
+      twice v = grind arith
 
       by : (c : Bool) → cond c (hidden (cond c (hidden own) Default)) Default ≡ cond c (hidden own) Default
-      by true = twice own
-      by false = refl
+      by c = grind arith
 
 -- ... rows
 
@@ -246,30 +187,19 @@ pub is_moved : (w : Word) (n : Object) (r : Reloc) (p : Place) → section_place
 is_moved w n r p own = by w r.target refl refl own
   where
     none : (b : Bool) → cond {A = Option Place} b None None ≡ Some p → ⊥
-    none true h = none-some p h
-    none false h = none-some p h
+    none b h = grind arith
 
     kept : (z : Place) (c : Bool) → cond c None (Some z) ≡ Some p → Some z ≡ Some p
-    kept z true h = absurd (none-some p h)
-    kept z false h = h
+    kept z c h = grind arith
 
     pick : (b : Bool) (o : Option Place) → cond b (option_and_then (λ (place : Place). cond (takes_section place.0 r.form.less) None (Some place)) o) None ≡ Some p → (b ≡ true) × (o ≡ Some p)
-    pick false o h = absurd (none-some p h)
-    pick true None h = absurd (none-some p h)
-    pick true (Some z) h = (refl, kept z (takes_section z.0 r.form.less) h)
+    pick b o h = grind arith
 
     by : (v : Word) (t : Target) → w ≡ v → r.target ≡ t → cond (mach_by_section v r.form.less) (target_place n r.form.less t) None ≡ Some p → IsMoved w n r p
-    by W64 t e f h = absurd (none-some p h)
-    by W32 (target.Section j) e f h = absurd (none (is_of_section r.form.less) h)
-    by W32 (target.Symbol j) e f h = let x = pick (is_of_section r.form.less) (place_at n j) h in record { short = e; section = x.0; number = j; target = f; place = x.1 }
+    by v t e f h = grind arith
 
 section_takes : (l : Less) → is_of_section l ≡ true → same_taken (taken_of l) TakesSection ≡ true
-section_takes less.Zero e = absurd (true≢false (sym e))
-section_takes less.Place e = absurd (true≢false (sym e))
-section_takes less.GotBase e = absurd (true≢false (sym e))
-section_takes less.ImageBase e = absurd (true≢false (sym e))
-section_takes less.Home e = absurd (true≢false (sym e))
-section_takes (less.Section k) e = refl
+section_takes l e = grind arith
 
 -- the same number, by the section and by the place in it
 moved_number : (A i : ℤ) (T P offset : ℕ) → i ≡ pos T -ℤ pos P → A +ℤ pos offset +ℤ neg_ℤ i ≡ A -ℤ (pos T -ℤ pos (P + offset))
@@ -301,8 +231,7 @@ module _ (w : Word) (n : Object) (is : IsForMach w n) where
   ready = mach_ready (mach_format w) w n is.object is.meets (all w)
     where
       all : (v : Word) → v ≡ W32 → AllByRecursion (λ (r : Row). r.base ≡ base.Address) (rows_of (mach_format v))
-      all W32 e = (refl, (refl, (refl, (refl, tt))))
-      all W64 e = absurd (cc)
+      all v e = grind arith
 
   -- ... sections and their addresses
 
@@ -355,15 +284,13 @@ module _ (w : Word) (n : Object) (is : IsForMach w n) where
   form_same r = by (section_place m n r)
     where
       by : (o : Option Place) → (at_section (word_for n.format) r o).form ≡ r.form
-      by None = refl
-      by (Some p) = refl
+      by o = grind arith
 
   pub hint_same : (r : Reloc) → (q r).hint ≡ mach_hint w r.hint
   hint_same r = by (section_place m n r)
     where
       by : (o : Option Place) → mach_hint w (at_section (word_for n.format) r o).hint ≡ mach_hint w r.hint
-      by None = refl
-      by (Some p) = refl
+      by o = grind arith
 
   pub target_same : (r : Reloc) → section_place m n r ≡ None → (q r).target ≡ seen_target sh r.target
   target_same r none = ap (λ o. seen_target sh (at_section (word_for n.format) r o).target) none
@@ -374,8 +301,7 @@ module _ (w : Word) (n : Object) (is : IsForMach w n) where
   -- ... the sections whose symbols are needed
 
   section_same : (k : ℕ) (t : Target) → is_section k (seen_target sh t) ≡ is_section k t
-  section_same k (target.Section j) = refl
-  section_same k (target.Symbol j) = refl
+  section_same k t = grind arith
 
   pub self_same : w ≡ W64 → (s : ℕ) (r : Reloc) → is_self_reference s (q r) ≡ is_self_reference s r
   self_same long s r =
@@ -561,9 +487,7 @@ module _ (w : Word) (n : Object) (is : IsForMach w n) where
   own_number_again k = ap (place_where (is_own_line k)) numbered_again ∙ place_map line_again (is_own_line k) (is_own_line k) (numbered_lines w n) same
     where
       same : (x : Line) → is_own_line k (line_again x) ≡ is_own_line k x
-      same (OwnLine j) = refl
-      same (LocalLine j s) = refl
-      same (OuterLine j s) = refl
+      same x = grind arith
 
   symbol_number_again : (k : ℕ) (s : Symbol) → slice_get n.symbols k ≡ Some s → is_local s.binding ≡ false → symbol_number (numbered_lines w a) (new_position sh k) ≡ symbol_number (numbered_lines w n) k
   symbol_number_again k s here outer =
@@ -582,9 +506,7 @@ module _ (w : Word) (n : Object) (is : IsForMach w n) where
   line_names_again = ap (map line_name) lines_again ∙ map-map line_name line_again (lines_of w n) ∙ map-alike (λ x. line_name (line_again x)) line_name (lines_of w n) (λ k x h. same x)
     where
       same : (x : Line) → line_name (line_again x) ≡ line_name x
-      same (OwnLine k) = refl
-      same (LocalLine k s) = refl
-      same (OuterLine k s) = refl
+      same x = grind arith
 
   strings_again : string_table w a ≡ string_table w n
   unfolding string_table
@@ -824,8 +746,7 @@ module _ (w : Word) (n : Object) (is : IsForMach w n) where
         paired o z short e same = ap (λ v. field_shift v o z) short ∙ ap (λ (row : Row). option_map_or (λ (second : ℕ). pair_shift o z) row.second (alone_shift o z)) same ∙ by x.row.second refl
           where
             by : (second : Option ℕ) → x.row.second ≡ second → option_map_or (λ (second : ℕ). pair_shift o z) second (alone_shift o z) ≡ pair_shift o z
-            by None h = absurd (none-some p (sym (alone_none h) ∙ e))
-            by (Some second) h = refl
+            by second h = grind arith
 
     number_again : field_number w a y ≡ field_number w n x
     unfolding field_number
@@ -897,15 +818,7 @@ module _ (w : Word) (n : Object) (is : IsForMach w n) where
   lines_long = ap length lines_again ∙ length-map (lines_of w n) line_again
 
   part_size_again : (x : Part) → part_size w a (part_again x) ≡ part_size w n x
-  part_size_again FileHead = refl
-  part_size_again SegmentHead = refl
-  part_size_again SectionHeads = ap (λ count. section_header_size w * count) count_same
-  part_size_again SymtabHead = refl
-  part_size_again DysymtabHead = refl
-  part_size_again (Raw k s) = refl
-  part_size_again (Relocs k s) = ap (λ rs. RELOCATION_INFO_SIZE * length rs) (relocs_again k)
-  part_size_again SymbolTable = ap (λ count. nlist_size w * count) lines_long
-  part_size_again StringTable = ap length strings_again
+  part_size_again x = grind (arith, count_same, relocs_again, lines_long, strings_again)
 
   abbrev commands_by : ℕ → ℕ
   commands_by count = segment_command_size w + section_header_size w * count + SYMTAB_COMMAND_SIZE + DYSYMTAB_COMMAND_SIZE
@@ -917,15 +830,7 @@ module _ (w : Word) (n : Object) (is : IsForMach w n) where
   begin_same = ap (λ (size : ℕ). mach_header_size w + size) commands_same
 
   part_begin_again : (x : Part) (p : ℕ) → part_begin w a p (part_again x) ≡ part_begin w n p x
-  part_begin_again FileHead p = refl
-  part_begin_again SegmentHead p = refl
-  part_begin_again SectionHeads p = refl
-  part_begin_again SymtabHead p = refl
-  part_begin_again DysymtabHead p = refl
-  part_begin_again (Raw k s) p = ap (λ (c : ℕ). c + aligned s.align (p - c)) begin_same
-  part_begin_again (Relocs k s) p = ap (λ rs. aligned (entries_align w (length rs)) p) (relocs_again k)
-  part_begin_again SymbolTable p = refl
-  part_begin_again StringTable p = refl
+  part_begin_again x p = grind (arith, begin_same, relocs_again)
 
   laid_again : laid_parts w a ≡ map (laid_as part_again) (laid_parts w n)
   laid_again =
@@ -936,48 +841,16 @@ module _ (w : Word) (n : Object) (is : IsForMach w n) where
   where_same test same = ap (place_where test) laid_again ∙ place_map part_again test test (laid_parts w n) same
 
   raw_place : (k : ℕ) (x : Part) → is_raw k (part_again x) ≡ is_raw k x
-  raw_place k FileHead = refl
-  raw_place k SegmentHead = refl
-  raw_place k SectionHeads = refl
-  raw_place k SymtabHead = refl
-  raw_place k DysymtabHead = refl
-  raw_place k (Raw j s) = refl
-  raw_place k (Relocs j s) = refl
-  raw_place k SymbolTable = refl
-  raw_place k StringTable = refl
+  raw_place k x = grind arith
 
   relocs_place : (k : ℕ) (x : Part) → is_relocs k (part_again x) ≡ is_relocs k x
-  relocs_place k FileHead = refl
-  relocs_place k SegmentHead = refl
-  relocs_place k SectionHeads = refl
-  relocs_place k SymtabHead = refl
-  relocs_place k DysymtabHead = refl
-  relocs_place k (Raw j s) = refl
-  relocs_place k (Relocs j s) = refl
-  relocs_place k SymbolTable = refl
-  relocs_place k StringTable = refl
+  relocs_place k x = grind arith
 
   table_place : (x : Part) → is_symbol_table (part_again x) ≡ is_symbol_table x
-  table_place FileHead = refl
-  table_place SegmentHead = refl
-  table_place SectionHeads = refl
-  table_place SymtabHead = refl
-  table_place DysymtabHead = refl
-  table_place (Raw j s) = refl
-  table_place (Relocs j s) = refl
-  table_place SymbolTable = refl
-  table_place StringTable = refl
+  table_place x = grind arith
 
   strings_place : (x : Part) → is_string_table (part_again x) ≡ is_string_table x
-  strings_place FileHead = refl
-  strings_place SegmentHead = refl
-  strings_place SectionHeads = refl
-  strings_place SymtabHead = refl
-  strings_place DysymtabHead = refl
-  strings_place (Raw j s) = refl
-  strings_place (Relocs j s) = refl
-  strings_place SymbolTable = refl
-  strings_place StringTable = refl
+  strings_place x = grind arith
 
   -- ... headers
 

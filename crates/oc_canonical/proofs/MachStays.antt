@@ -1,11 +1,11 @@
 -- What is seen of an object that is ready for Mach-O is ready for Mach-O.
-use Rattle.std.proofs.Common.{◌≡◌, ℕ, zero, suc, ◌+◌, ◌^◌, ◌<◌, ◌≤◌, ◌⊎◌, inl, inr, Bool, true, false, cond, not, ◌&&◌, ◌||◌, nat_lt, nat_le, List, [], ◌∷◌, ◌++◌, length, map, is_none, is_err, Option, Some, None, ℤ, refl, sym, ◌∙◌, ap, subst, arith}
+use Rattle.std.proofs.Common.{◌≡◌, ℕ, zero, suc, ◌+◌, ◌^◌, ◌<◌, ◌≤◌, ◌⊎◌, Bool, true, false, cond, not, ◌&&◌, ◌||◌, nat_lt, nat_le, List, [], ◌∷◌, ◌++◌, length, map, is_none, is_err, Option, Some, None, ℤ, refl, sym, ◌∙◌, ap, subst, arith}
 use Rattle.std.specs.{Prelude.{slice_get, nat_eq}, List.{enumerate_from, list_any}, Option.{option_map, option_map_or, option_and_then}}
-use Rattle.std.proofs.lemmas.{Bool.{eq-eqb, lt-ltb, or_parts, or_from}, Option.{none-some, same_Some}}
+use Rattle.std.proofs.lemmas.Bool.{eq-eqb, lt-ltb, or_parts, or_from}
 use Rattle.oc_base.specs.{declared.format.Word.{Word}, declared.format.Word.TheVariants.{W32, W64}, declared.format.Format.{Format}, declared.fault.Spot.{Spot}}
 use Rattle.oc_base.specs.Formats.{word_for}
 use Rattle.oc_linking.specs.{declared.terms.Kind.{Kind}, declared.terms.Kind.TheVariants.{Debug}, declared.terms.Fallback.{Fallback}}
-use Rattle.oc_linking.specs.{declared.terms.Binding.{Binding}, declared.terms.Binding.TheVariants.{Local, Global, Undefined, Common, Weak}}
+use Rattle.oc_linking.specs.{declared.terms.Binding.{Binding}, declared.terms.Binding.TheVariants.{Weak}}
 use Rattle.oc_linking.specs.declared.terms.Value.TheVariants as value
 use Rattle.oc_linking.specs.declared.terms.Fallback.TheVariants as fallback
 use Rattle.oc_algebra.specs.{declared.form.Form.{Form}, Fields.{to_field_of}}
@@ -28,34 +28,26 @@ use Rattle.oc_shows.proofs.{SeenAlike.{stands}, SeenLines.{IsShown}}
 use Rattle.oc_macho.specs.MachHeader.{mach_format}
 use Rattle.oc_macho_file.proofs.{CodedLaws.{IsForMach, IsPlaced, for_mach, fallback_is}, SeenLaws.{shown, again, again_is, are_shown}}
 use Rattle.oc_macho_file.proofs.StructureLaws.{high_test}
-use Rattle.oc_canonical.proofs.MachAgain.{row_same, is_moved, written_same, ready, form_same, hint_same, target_same, long_place, self_same, needed_again, addend_same}
+use Rattle.oc_canonical.proofs.MachAgain.{row_same, is_moved, written_same, ready, form_same, hint_same, target_same, long_place, needed_again, addend_same}
 use Rattle.oc_canonical.proofs.{SeenSums.{seen_count}, SeenFitted.{FamilyStays, seen_fitted}, StaysLemmas.{sections_long, target_stays}}
 use Rattle.oc_elf_file.proofs.{TableClean.{none_right}, HeaderClean.{within_file}}
 use Rattle.oc_neutral.proofs.GivenLaws.{same_kind-self}
 
 family_whole : (w : Word) → family_of (mach_format w) ≡ mach_family w
-family_whole W32 = refl
-family_whole W64 = refl
+family_whole w = grind arith
 
 range_whole : (w : Word) → section_range (mach_format w) ≡ upto 255
-range_whole W32 = refl
-range_whole W64 = refl
+range_whole w = grind arith
 
 comma_in : (xs ys : List ℕ) → list_any is_comma (xs ++ 44 ∷ ys) ≡ true
 comma_in [] ys = refl
 comma_in (x ∷ xs) ys = by (is_comma x) (comma_in xs ys)
   where
     by : (b : Bool) → list_any is_comma (xs ++ 44 ∷ ys) ≡ true → (b || list_any is_comma (xs ++ 44 ∷ ys)) ≡ true
-    by true e = refl
-    by false e = e
+    by b e = grind arith
 
 section_of_place : (b : Binding) (p : Place) → global_place b ≡ Some p → global_section b ≡ Some p.0
-section_of_place (Local v) p h = absurd (none-some p h)
-section_of_place (Global (value.Place k offset)) p h = ap (λ (x : Place). Some x.0) (same_Some (k, offset) p h)
-section_of_place (Global (value.Absolute a)) p h = absurd (none-some p h)
-section_of_place Undefined p h = absurd (none-some p h)
-section_of_place (Common size align) p h = absurd (none-some p h)
-section_of_place (Weak f) p h = absurd (none-some p h)
+section_of_place b p h = grind arith
 
 module _ (w : Word) (n : Object) (fits : IsFitted (mach_format w) n) where
   is : IsForMach w n
@@ -137,8 +129,7 @@ module _ (w : Word) (n : Object) (fits : IsFitted (mach_format w) n) where
   weak k s f here own = ap (λ (g : Family). g.lacks_weak a (seen_fallback m n sh f)) whole ∙ by (fallback_is w n is k s here f own)
     where
       by : (f ≡ fallback.Zero) ⊎ IsPlaced w n f → (mach_family w).lacks_weak a (seen_fallback m n sh f) ≡ false
-      by (inl z) = ap (λ g. (mach_family w).lacks_weak a (seen_fallback m n sh g)) z
-      by (inr p) = ap ((mach_family w).lacks_weak a) (p.seen sh)
+      by x = grind arith
 
   -- ... relocations
 
@@ -151,22 +142,16 @@ module _ (w : Word) (n : Object) (fits : IsFitted (mach_format w) n) where
       by i (x ∷ xs) (suc k) = by (i + 1) xs k
 
   section_same : (b : Binding) → global_section (seen_binding m n sh b) ≡ global_section b
-  section_same (Local v) = refl
-  section_same (Global v) = refl
-  section_same Undefined = refl
-  section_same (Common size align) = refl
-  section_same (Weak f) = refl
+  section_same b = grind arith
 
   symbol_same : (t : Target) → is_symbol (seen_target sh t) ≡ is_symbol t
-  symbol_same (aim.Section k) = refl
-  symbol_same (aim.Symbol k) = refl
+  symbol_same t = grind arith
 
   placed_end : (j : ℕ) (p : Place) → place_at n j ≡ Some p → fixed_end n (aim.Symbol j) ≡ Some p.0
   placed_end j p h = by (slice_get n.symbols j) h
     where
       by : (o : Option Symbol) → option_and_then (λ (s : Symbol). global_place s.binding) o ≡ Some p → option_and_then (λ (s : Symbol). global_section s.binding) o ≡ Some p.0
-      by None h = absurd (none-some p h)
-      by (Some s) h = section_of_place s.binding p h
+      by o h = grind arith
 
   module _ (s at : ℕ) (r : Reloc) (here : reloc_at n s at ≡ Some r) where
     abbrev q : Reloc
@@ -261,8 +246,7 @@ module _ (w : Word) (n : Object) (fits : IsFitted (mach_format w) n) where
   stored s r e = ap (λ (f : Family). f.stores_own_start && is_self_reference s (seen_reloc m n sh r)) whole ∙ by w refl
     where
       by : (v : Word) → w ≡ v → ((mach_family v).stores_own_start && is_self_reference s (seen_reloc m n sh r)) ≡ false
-      by W32 f = refl
-      by W64 f = self_same w n is f s r ∙ sym (ap (λ v. (mach_family v).stores_own_start && is_self_reference s r) f) ∙ sym (ap (λ (g : Family). g.stores_own_start && is_self_reference s r) whole) ∙ e
+      by v f = grind arith
 
   mach_stays : FamilyStays target m n sh
   mach_stays = record {

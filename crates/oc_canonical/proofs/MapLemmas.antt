@@ -1,5 +1,5 @@
 -- Lists whose items are changed: what is found in them, and the parts of files.
-use Rattle.std.proofs.Common.{◌≡◌, ℕ, zero, suc, ◌+◌, ◌-◌, Bool, true, false, cond, List, [], ◌∷◌, ◌++◌, length, map, Some, refl, sym, ◌∙◌, ap}
+use Rattle.std.proofs.Common.{◌≡◌, ℕ, zero, suc, ◌+◌, ◌-◌, Bool, true, false, cond, List, [], ◌∷◌, ◌++◌, length, map, Some, refl, sym, ◌∙◌, ap, arith}
 use Rattle.std.specs.{Prelude.{slice_get, slice_index_or, filter, flat_map, find, replicate}, List.{enumerate_from, list_any}, Option.{option_map_or}}
 use Rattle.std.proofs.lemmas.Bool.{true≢false}
 use Rattle.oc_shelf.specs.Writing.Parts.{Laid, laid, laid_end, joined, place_where}
@@ -28,8 +28,7 @@ filter-mapped f test tests (x ∷ xs) same =
     ap (λ b. cond b (f x ∷ filter tests (map f xs)) (filter tests (map f xs))) (same 0 x refl) ∙ by (test x) (filter-mapped f test tests xs (λ k y h. same (suc k) y h))
   where
     by : (b : Bool) → filter tests (map f xs) ≡ map f (filter test xs) → cond b (f x ∷ filter tests (map f xs)) (filter tests (map f xs)) ≡ map f (cond b (x ∷ filter test xs) (filter test xs))
-    by true e = ap (λ ys. f x ∷ ys) e
-    by false e = e
+    by b e = grind arith
 
 pub filter-within : {X : Type 0} (test u : X → Bool) (xs : List X) → ((x : X) → test x ≡ true → u x ≡ true) → filter test (filter u xs) ≡ filter test xs
 filter-within test u [] within = refl
@@ -47,8 +46,7 @@ filter-apart test u [] apart = refl
 filter-apart test u (x ∷ xs) apart = by (u x) refl (filter-apart test u xs apart)
   where
     by : (b : Bool) → u x ≡ b → filter test (filter u xs) ≡ [] → filter test (cond b (x ∷ filter u xs) (filter u xs)) ≡ []
-    by true t e = ap (λ c. cond c (x ∷ filter test (filter u xs)) (filter test (filter u xs))) (apart x t) ∙ e
-    by false t e = e
+    by b t e = grind arith
 
 -- a test that some item passes, by the items that pass it
 abbrev pub is_filled : {X : Type 0} → List X → Bool
@@ -56,8 +54,7 @@ is_filled [] = false
 is_filled (x ∷ xs) = true
 
 pub filled_map : {X Y : Type 0} (f : X → Y) (xs : List X) → is_filled (map f xs) ≡ is_filled xs
-filled_map f [] = refl
-filled_map f (x ∷ xs) = refl
+filled_map f xs = grind arith
 
 pub any_filled : {X : Type 0} (test : X → Bool) (i : ℕ) (xs : List X) → list_any test xs ≡ is_filled (filter (λ (x : ℕ × X). test x.1) (enumerate_from i xs))
 any_filled test i [] = refl

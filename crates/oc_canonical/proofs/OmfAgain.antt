@@ -1,5 +1,5 @@
 -- The canonical OMF module of what is seen of an object is that of the object.
-use Rattle.std.proofs.Common.{◌≡◌, ℕ, suc, ◌+◌, ◌-◌, Bool, true, false, cond, eqb, ◌&&◌, nat_le, nat_lt, List, [], ◌∷◌, ◌++◌, length, map, fold, Option, Some, None, ℤ, refl, sym, ◌∙◌, ap, append-nil}
+use Rattle.std.proofs.Common.{◌≡◌, ℕ, suc, ◌+◌, ◌-◌, Bool, true, false, cond, eqb, ◌&&◌, nat_le, nat_lt, List, [], ◌∷◌, ◌++◌, length, map, fold, Option, Some, None, ℤ, refl, sym, ◌∙◌, ap, append-nil, arith}
 use mathlib.Core.Path.{fun_ext}
 use Rattle.std.specs.Prelude.{slice_get, filter, filter_map, flat_map, bytes_eq, nat_eq, codes, slice_range}
 use Rattle.std.specs.{List.{AllByRecursion, enumerate_from, cons_option, position_or_len}, Option.{option_map, option_map_or, option_and_then}}
@@ -89,62 +89,30 @@ public_where (x ∷ xs) = by x.1.binding (public_where xs)
 
 -- two of these tests do not hold of one binding
 undefined_common : (b : Binding) → is_undefined b ≡ true → is_common b ≡ false
-undefined_common Undefined e = refl
-undefined_common (Local v) e = refl
-undefined_common (Global v) e = refl
-undefined_common (Common size align) e = absurd (true≢false (sym e))
-undefined_common (Weak f) e = refl
+undefined_common b e = grind arith
 
 undefined_global : (b : Binding) → is_undefined b ≡ true → is_global b ≡ false
-undefined_global Undefined e = refl
-undefined_global (Local v) e = refl
-undefined_global (Global v) e = absurd (true≢false (sym e))
-undefined_global (Common size align) e = refl
-undefined_global (Weak f) e = refl
+undefined_global b e = grind arith
 
 common_global : (b : Binding) → is_common b ≡ true → is_global b ≡ false
-common_global Undefined e = refl
-common_global (Local v) e = refl
-common_global (Global v) e = absurd (true≢false (sym e))
-common_global (Common size align) e = refl
-common_global (Weak f) e = refl
+common_global b e = grind arith
 
 -- ... what a symbol says
 
 place_same : (n : Object) (shown : List (ℕ × ℕ)) (b : Binding) → global_place (seen_binding omf_manner n shown b) ≡ global_place b
-place_same n shown (Local v) = refl
-place_same n shown (Global v) = refl
-place_same n shown Undefined = refl
-place_same n shown (Common size align) = refl
-place_same n shown (Weak f) = refl
+place_same n shown b = grind arith
 
 size_same : (n : Object) (shown : List (ℕ × ℕ)) (b : Binding) → size_by (seen_binding omf_manner n shown b) ≡ size_by b
-size_same n shown (Local v) = refl
-size_same n shown (Global v) = refl
-size_same n shown Undefined = refl
-size_same n shown (Common size align) = refl
-size_same n shown (Weak f) = refl
+size_same n shown b = grind arith
 
 undefined_same : (n : Object) (shown : List (ℕ × ℕ)) (b : Binding) → is_undefined (seen_binding omf_manner n shown b) ≡ is_undefined b
-undefined_same n shown (Local v) = refl
-undefined_same n shown (Global v) = refl
-undefined_same n shown Undefined = refl
-undefined_same n shown (Common size align) = refl
-undefined_same n shown (Weak f) = refl
+undefined_same n shown b = grind arith
 
 common_same : (n : Object) (shown : List (ℕ × ℕ)) (b : Binding) → is_common (seen_binding omf_manner n shown b) ≡ is_common b
-common_same n shown (Local v) = refl
-common_same n shown (Global v) = refl
-common_same n shown Undefined = refl
-common_same n shown (Common size align) = refl
-common_same n shown (Weak f) = refl
+common_same n shown b = grind arith
 
 global_same : (n : Object) (shown : List (ℕ × ℕ)) (b : Binding) → is_global (seen_binding omf_manner n shown b) ≡ is_global b
-global_same n shown (Local v) = refl
-global_same n shown (Global v) = refl
-global_same n shown Undefined = refl
-global_same n shown (Common size align) = refl
-global_same n shown (Weak f) = refl
+global_same n shown b = grind arith
 
 module _ (n : Object) (is : IsForOmf n) (object : IsObject (again n)) where
   abbrev shows : IsShown n (shown n)
@@ -300,8 +268,7 @@ module _ (n : Object) (is : IsForOmf n) (object : IsObject (again n)) where
       ∙ by (eqb (length (fields_between n k x.0 x.1)) 0)
     where
       by : (b : Bool) → Data k (seen_section omf_manner n (k, s)) x.0 x.1 ∷ cond b [] (Fixups k (seen_section omf_manner n (k, s)) x.0 x.1 ∷ []) ≡ map output_again (Data k s x.0 x.1 ∷ cond b [] (Fixups k s x.0 x.1 ∷ []))
-      by true = refl
-      by false = refl
+      by b = grind arith
 
   data_again : (x : ℕ × Section) → data_outputs a (again_at x) ≡ map output_again (data_outputs n x)
   data_again x =
@@ -347,16 +314,7 @@ module _ (n : Object) (is : IsForOmf n) (object : IsObject (again n)) where
       moved_key o (l.found 0) ∙ outer_tell omf_manner n (shown n) shows (key_of o) j l.symbol t l.there here l.outer outer ∙ sym (l.found j))
     where
       moved_key : (o : Output) → is_of_symbol 0 o ≡ nat_eq (key_of o) 0 → is_of_symbol (new_position (shown n) j) (output_again o) ≡ nat_eq (new_position (shown n) (key_of o)) (new_position (shown n) j)
-      moved_key (External k s) f = refl
-      moved_key (Communal k s) f = refl
-      moved_key (Public k s) f = refl
-      moved_key Header f = absurd (true≢false (sym f))
-      moved_key (Names names) f = absurd (true≢false (sym f))
-      moved_key (Segment k s) f = absurd (true≢false (sym f))
-      moved_key Group f = absurd (true≢false (sym f))
-      moved_key (Data k s from to) f = absurd (true≢false (sym f))
-      moved_key (Fixups k s from to) f = absurd (true≢false (sym f))
-      moved_key End f = absurd (true≢false (sym f))
+      moved_key o f = grind arith
 
   module _ (k at : ℕ) (r : Reloc) (here : reloc_at n k at ≡ Some r) where
     abbrev q : Reloc
@@ -369,8 +327,7 @@ module _ (n : Object) (is : IsForOmf n) (object : IsObject (again n)) where
     form_same = by place
       where
         by : (o : Option Place) → (at_section (word_for n.format) r o).form ≡ r.form
-        by None = refl
-        by (Some p) = refl
+        by o = grind arith
 
     q_there : reloc_at a k at ≡ Some q
     q_there = relocs_same omf_manner n (shown n) shows n.relocs k at ∙ ap (option_map (seen_reloc omf_manner n (shown n))) here
@@ -429,8 +386,7 @@ module _ (n : Object) (is : IsForOmf n) (object : IsObject (again n)) where
     written_form m x = by (section_place omf_manner m x)
       where
         by : (o : Option Place) → (at_section W32 x o).form ≡ x.form
-        by None = refl
-        by (Some p) = refl
+        by o = grind arith
 
     abbrev number_with : Row → Form → ℤ → ℕ
     number_with row form addend = number_or (to_field_of W32 form.width (shift_of row) addend)
@@ -495,16 +451,7 @@ module _ (n : Object) (is : IsForOmf n) (object : IsObject (again n)) where
   contents_again End = refl
 
   type_again : (o : Output) → output_type (output_again o) ≡ output_type o
-  type_again Header = refl
-  type_again (Names names) = refl
-  type_again (Segment k s) = refl
-  type_again Group = refl
-  type_again (External k s) = refl
-  type_again (Communal k s) = refl
-  type_again (Public k s) = refl
-  type_again (Data k s from to) = refl
-  type_again (Fixups k s from to) = refl
-  type_again End = refl
+  type_again o = grind arith
 
   pub omf_file_again : omf_file (seen n) ≡ omf_file n
   unfolding omf_file

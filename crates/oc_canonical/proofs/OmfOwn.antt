@@ -1,12 +1,11 @@
 -- What of OMF is read where Debug sections are not kept, of a module that has none: the same.
-use Rattle.std.proofs.Common.{◌≡◌, ℕ, zero, suc, ◌+◌, Bool, true, false, cond, List, [], ◌∷◌, ◌++◌, map, take, filter_map, Option, Some, None, Result, Ok, Err, refl, sym, ◌∙◌, ap, subst}
+use Rattle.std.proofs.Common.{◌≡◌, ℕ, zero, suc, ◌+◌, Bool, true, false, cond, List, [], ◌∷◌, ◌++◌, map, take, filter_map, Option, Some, None, Result, Ok, Err, refl, sym, ◌∙◌, ap, subst, arith}
 use mathlib.Core.Path.{fun_ext}
 use Rattle.std.specs.{Prelude.{slice_get}, List.{AllByRecursion, enumerate_from, range_with_len}}
 use Rattle.std.specs.Option.{option_map, option_map_or, option_and_then, unwrap_or}
 use Rattle.std.proofs.lemmas.Option.{none-some, same_Some, slice_get-map}
-use Rattle.oc_linking.specs.{declared.terms.Kind.{Kind}, declared.terms.Kind.TheVariants.{Code, ReadOnly, Data, Zero, Init, Fini, Debug, Exception, Note}}
-use Rattle.oc_linking.specs.{declared.terms.Keep.{Keep}, declared.terms.Patch.{Patch}, Images.{overlay}, Keeping.{all, keeps}, Linking.{flags_in}}
-use Rattle.oc_linking.specs.{Shows.{unders}, Fits.{bytes_of}, Placing.{zeros}, Linking.{patch_of}}
+use Rattle.oc_linking.specs.{declared.terms.Kind.{Kind}, declared.terms.Keep.{Keep}, declared.terms.Patch.{Patch}, Images.{overlay}, Keeping.{all, keeps}}
+use Rattle.oc_linking.specs.{Linking.{flags_in}, Shows.{unders}, Fits.{bytes_of}, Placing.{zeros}, Linking.{patch_of}}
 use Rattle.oc_linking.specs.Parts as parts
 use Rattle.oc_base.specs.{Formats.{word_for}, declared.format.Format.TheVariants.{Omf}}
 use Rattle.oc_chains.specs.declared.field.Field.{Field}
@@ -22,9 +21,8 @@ use Rattle.oc_names.specs.Wishes.{no_wishes}
 use Rattle.oc_convert.specs.Refusals.{kept_of_file}
 use Rattle.oc_shelf.proofs.{ReadingLaws.StageLemmas.{Unbroken, IsUnbroken, no_first_fault}, WritingLaws.MemberLemmas.{of_map}}
 use Rattle.oc_omf.specs.{declared.structures.Subrecord.{Subrecord}, declared.cut.Cut.{Cut}, Entries.{Entry, entries_in}, Fields.{fields_in}}
-use Rattle.oc_omf.specs.{Fixups.{PlacedSubrecord, subrecords_by, subrecords_upto, Fixed, fixed_of, fixed_in}, Targets.{Meaning, meaning_of}}
-use Rattle.oc_omf.specs.{Tables.{Tables, indexed}, Structures.{Piece}, declared.structures.Segment.{Segment}, Sections.{segment_kind}}
-use Rattle.oc_omf.specs.SymbolFaults.{symbol_stages}
+use Rattle.oc_omf.specs.{Fixups.{PlacedSubrecord, subrecords_by, subrecords_upto, Fixed, fixed_of, fixed_in}, Targets.{Meaning, meaning_of}, Tables.{Tables}}
+use Rattle.oc_omf.specs.{Structures.{Piece}, declared.structures.Segment.{Segment}, Sections.{segment_kind}, SymbolFaults.{symbol_stages}}
 use Rattle.oc_omf.specs.RelocationFaults.{is_judged, fixup_conditions, part_conditions, relocation_conditions, relocation_stage, relocation_stages}
 use Rattle.oc_omf.specs.Rules.{omf_rules, omf_dialect, stages_of, fault_of}
 use Rattle.oc_omf.specs.declared.structures.Subrecord.TheVariants as subrecord
@@ -43,12 +41,10 @@ all_judged : (t : Tables) (x : Fixed) → is_judged t all x ≡ true
 all_judged t x = by x.piece
   where
     kept : (d : Piece) (o : Option Segment) → option_map_or (λ (s : Segment). keeps all (segment_kind t d.segment s)) o true ≡ true
-    kept d None = refl
-    kept d (Some s) = keeps-all (segment_kind t d.segment s)
+    kept d o = grind arith
 
     by : (o : Option Piece) → option_map_or (faults.is_kept t all) o true ≡ true
-    by None = refl
-    by (Some d) = kept d (indexed t.segments d.segment)
+    by o = grind arith
 
 part_fewer : (m : Meaning) (keep : Keep) (earlier : List PlacedSubrecord) (x : PlacedSubrecord) (p : Result Subrecord Cut) → Unbroken (part_conditions m all earlier x p) → Unbroken (part_conditions m keep earlier x p)
 part_fewer m keep earlier x (Ok (subrecord.Thread t)) unbroken = unbroken
@@ -164,15 +160,7 @@ abbrev own_keep : Keep
 own_keep = kept_of_file no_wishes omf_dialect Omf
 
 kept_kind : (k : Kind) → IsClassed k → keeps own_keep k ≡ true
-kept_kind Code is = refl
-kept_kind ReadOnly is = refl
-kept_kind Data is = refl
-kept_kind Zero is = refl
-kept_kind Init is = refl
-kept_kind Fini is = refl
-kept_kind Debug is = sym is.debug
-kept_kind Exception is = refl
-kept_kind Note is = refl
+kept_kind k is = grind arith
 
 module _ (n : Object) (fits : IsFitted Omf n) where
   is : IsForOmf n

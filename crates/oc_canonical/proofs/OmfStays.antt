@@ -1,10 +1,9 @@
 -- What is seen of an object that is ready for OMF is ready for OMF.
 use Rattle.std.proofs.Common.{◌≡◌, ℕ, Bool, true, false, not, ◌&&◌, ◌||◌, nat_lt, List, length, is_none, Some, refl, sym, ◌∙◌, ap, subst, arith}
 use Rattle.std.specs.{Prelude.{slice_get, count_by}, Option.{option_map, option_map_or}}
-use Rattle.std.proofs.lemmas.{Bool.{eq-eqb, or_parts, or_from}, Option.{none-some}}
+use Rattle.std.proofs.lemmas.Bool.{eq-eqb, or_parts, or_from}
 use Rattle.oc_base.specs.{declared.format.Format.TheVariants.{Omf}, declared.fault.Spot.{Spot}}
-use Rattle.oc_linking.specs.{declared.terms.Kind.{Kind}, declared.terms.Kind.TheVariants.{Code, ReadOnly, Data, Zero, Init, Fini, Debug, Exception, Note}}
-use Rattle.oc_linking.specs.{declared.terms.Binding.{Binding}, declared.terms.Binding.TheVariants.{Local, Global, Undefined, Common, Weak}}
+use Rattle.oc_linking.specs.{declared.terms.Kind.{Kind}, declared.terms.Kind.TheVariants.{Init, Fini, Debug}, declared.terms.Binding.{Binding}}
 use Rattle.oc_linking.specs.{declared.terms.Hint.TheVariants.{Plain}, Parts.{is_local}}
 use Rattle.oc_algebra.specs.declared.form.Form.{Form}
 use Rattle.oc_neutral.specs.{declared.section.Section.{Section}, declared.symbol.Symbol.{Symbol}, declared.reloc.Reloc.{Reloc}, Objects.{Object, reloc_at}}
@@ -26,22 +25,10 @@ pub record IsClassed (kind : Kind) : Type 0 where
   pub given : omf_gives kind ≡ true
 
 pub classed : (kind : Kind) (class : List ℕ) → omf_class kind ≡ Some class → IsClassed kind
-classed Code class e = record { debug = refl; there = refl; given = refl }
-classed ReadOnly class e = record { debug = refl; there = refl; given = refl }
-classed Data class e = record { debug = refl; there = refl; given = refl }
-classed Zero class e = record { debug = refl; there = refl; given = refl }
-classed Init class e = absurd (none-some class e)
-classed Fini class e = absurd (none-some class e)
-classed Debug class e = absurd (none-some class e)
-classed Exception class e = absurd (none-some class e)
-classed Note class e = absurd (none-some class e)
+classed kind class e = grind arith
 
 external_same : (n : Object) (shown : List (ℕ × ℕ)) (b : Binding) → is_external (seen_binding omf_manner n shown b) ≡ is_external b
-external_same n shown (Local v) = refl
-external_same n shown (Global v) = refl
-external_same n shown Undefined = refl
-external_same n shown (Common size align) = refl
-external_same n shown (Weak f) = refl
+external_same n shown b = grind arith
 
 module _ (n : Object) (fits : IsFitted Omf n) where
   is : IsForOmf n

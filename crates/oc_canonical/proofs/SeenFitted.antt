@@ -5,12 +5,12 @@ use Rattle.std.proofs.lemmas.{Bool.{or_right}, Bool.Decides.{nat_tests}, List.Su
 use Rattle.std.proofs.lemmas.Option.{none-some, same_Some, slice_get-map, get_or_from_slice_get}
 use Rattle.oc_base.specs.{declared.format.Format.{Format}, declared.fault.Spot.{Spot}}
 use Rattle.oc_linking.specs.{declared.terms.Fallback.{Fallback}, declared.terms.Kind.TheVariants.{Debug, Exception}, declared.terms.Binding.{Binding}}
-use Rattle.oc_linking.specs.declared.terms.Binding.TheVariants.{Local, Global, Undefined, Common, Weak}
+use Rattle.oc_linking.specs.declared.terms.Binding.TheVariants.{Weak}
 use Rattle.oc_chains.specs.{declared.field.Field.{Field}, Lists.{Lists, list_of}}
 use Rattle.oc_neutral.specs.{declared.section.Section.{Section}, declared.symbol.Symbol.{Symbol}, declared.reloc.Reloc.{Reloc}, Objects.{Object, reloc_at}}
 use Rattle.oc_neutral.specs.{Alignments.{output_align}, Families.{family_of, container_of, same_format}, GivenTags.{can_have}}
 use Rattle.oc_neutral.specs.{HomeNames.{is_home, output_names}, Invariants.{IsObject}, KindRules.{same_kind}, Stored.{is_stored}}
-use Rattle.oc_neutral.specs.TargetSections.{judged, section_counts, section_count, is_debug_kept, is_exception_kept, section_spot, section_conditions, conditions_at, section_stages}
+use Rattle.oc_neutral.specs.TargetSections.{section_count, is_debug_kept, is_exception_kept, section_conditions, conditions_at, section_stages}
 use Rattle.oc_neutral.specs.TargetSymbols.{bounded, limited, names_length, symbol_count, is_absolute_form, is_common_form, is_weak_form, symbol_conditions, symbol_stages}
 use Rattle.oc_neutral.specs.TargetRelocations.{PlacedReloc, placed_relocs_in, placed_relocs_from, placed_relocs, spot_of, reloc_conditions, standing_conditions, relocation_stages}
 use Rattle.oc_target.specs.Fitted.{IsFitted, IsNamed, first_unfit, fitted_binding}
@@ -99,8 +99,7 @@ module _ (target : Format) (m : Manner) (n : Object) (shown : List (ℕ × ℕ))
   exception_kept s = ap (λ b. same_kind (m.kind s) Exception && not b && not ((family_of target).takes_exceptions (container_of n.format))) same ∙ by (same_kind (m.kind s) Exception)
     where
       by : (b : Bool) → (b && false && not ((family_of target).takes_exceptions (container_of n.format))) ≡ false
-      by true = refl
-      by false = refl
+      by b = grind arith
 
   section_stays : (k : ℕ) (s : Section) → slice_get n.sections k ≡ Some s → Unbroken (section_conditions target a s.name (seen_section m n (k, s)))
   unfolding section_conditions
@@ -150,25 +149,13 @@ module _ (target : Format) (m : Manner) (n : Object) (shown : List (ℕ × ℕ))
   counted_stays = unbroken_append (option_map_or bounded ((family_of target).symbols a) []) (limited (names_length target a)) stays.few limit_stays
 
   absolute_stays : (b : Binding) → is_absolute_form target (seen_binding m n shown b) ≡ is_absolute_form target b
-  absolute_stays (Local v) = refl
-  absolute_stays (Global v) = refl
-  absolute_stays Undefined = refl
-  absolute_stays (Common size align) = refl
-  absolute_stays (Weak f) = refl
+  absolute_stays b = grind arith
 
   common_stays : (b : Binding) → is_common_form target (seen_binding m n shown b) ≡ is_common_form target b
-  common_stays (Local v) = refl
-  common_stays (Global v) = refl
-  common_stays Undefined = refl
-  common_stays (Common size align) = refl
-  common_stays (Weak f) = refl
+  common_stays b = grind arith
 
   weak_stays : (k : ℕ) (s : Symbol) → slice_get n.symbols k ≡ Some s → (b : Binding) → s.binding ≡ b → is_weak_form target a (seen_binding m n shown b) ≡ false
-  weak_stays k s here (Local v) own = refl
-  weak_stays k s here (Global v) own = refl
-  weak_stays k s here Undefined own = refl
-  weak_stays k s here (Common size align) own = refl
-  weak_stays k s here (Weak f) own = stays.weak k s f here own
+  weak_stays k s here b own = grind arith
 
   symbol_stays : (i : ℕ) → i < length a.symbols → Unbroken (sections_of_target.each_of (symbol_conditions target a) a.symbols i)
   unfolding symbol_conditions
@@ -228,11 +215,7 @@ module _ (target : Format) (m : Manner) (n : Object) (shown : List (ℕ × ℕ))
       subst (λ (s : Section). output_align target s.align ≡ s.align) x.2 (each_at (λ (s : Section). output_align target s.align ≡ s.align) n.sections k x.0 fits.aligns x.1))
 
   bound_stays : (b : Binding) → fitted_binding target b ≡ b → fitted_binding target (seen_binding m n shown b) ≡ seen_binding m n shown b
-  bound_stays (Local v) e = refl
-  bound_stays (Global v) e = refl
-  bound_stays Undefined e = refl
-  bound_stays (Common size align) e = e
-  bound_stays (Weak f) e = refl
+  bound_stays b e = grind arith
 
   commons_stay : AllByRecursion (λ (s : Symbol). fitted_binding target s.binding ≡ s.binding) a.symbols
   commons_stay = all_from (λ (s : Symbol). fitted_binding target s.binding ≡ s.binding) a.symbols (λ i t here.
@@ -244,8 +227,7 @@ module _ (target : Format) (m : Manner) (n : Object) (shown : List (ℕ × ℕ))
   stored_stays s at q here = by (reloc_at n s at) refl (sym (relocs_same m n shown is n.relocs s at) ∙ here)
     where
       by : (o : Option Reloc) → reloc_at n s at ≡ o → option_map (seen_reloc m n shown) o ≡ Some q → is_stored target s q ≡ false
-      by None e h = absurd (none-some q h)
-      by (Some r) e h = subst (λ x. is_stored target s x ≡ false) (same_Some (seen_reloc m n shown r) q h) (stays.stored s r (fits.stored s at r e))
+      by o e h = grind arith
 
   pub seen_fitted : IsFitted target (seen_with m n shown)
   seen_fitted = record {

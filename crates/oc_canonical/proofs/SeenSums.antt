@@ -1,7 +1,7 @@
 -- Sums over the symbols that are seen are at most those over the symbols of the object.
 use Rattle.std.proofs.Common.{◌≡◌, ◌≢◌, ℕ, suc, ◌+◌, ◌<◌, ◌≤◌, cond, List, [], ◌∷◌, length, sum_by, count_by, Option, Some, None, refl, sym, ◌∙◌, ap, arith, Bool}
 use Rattle.std.specs.{Prelude.{slice_get}, List.{enumerate_from, cons_option}, Option.{option_map}}
-use Rattle.std.proofs.lemmas.{List.Sums.{sum_by-cons}, Option.{none-some, same_Some}}
+use Rattle.std.proofs.lemmas.List.Sums.{sum_by-cons}
 use Rattle.oc_neutral.specs.{declared.symbol.Symbol.{Symbol}, Objects.{Object}}
 use Rattle.oc_shows.specs.{Manners.{Manner}, Seen.{seen_symbol, seen_symbols}}
 use Rattle.oc_shows.proofs.SeenLines.{IsShown}
@@ -35,8 +35,7 @@ module _ (m : Manner) (n : Object) (shown : List (ℕ × ℕ)) (is : IsShown n s
       at k y z e = of (slice_get n.symbols y.0) e
         where
           of : (o : Option Symbol) → option_map (λ (s : Symbol). (y.0, s)) o ≡ Some z → z.0 ≡ y.0
-          of None h = absurd (none-some z h)
-          of (Some s) h = sym (ap (λ (q : ℕ × Symbol). q.0) (same_Some (y.0, s) z h))
+          of o h = grind arith
 
       by : (o : Option Symbol) → AreApart (shown_ones n xs) → AreApart (cons_option (option_map (λ (s : Symbol). (x.0, s)) o) (shown_ones n xs))
       by None later = later

@@ -1,5 +1,5 @@
 -- The canonical file of each object that is ready is given again by a conversion to its own format.
-use Rattle.std.proofs.Common.{◌≡◌, ℕ, List, Ok, refl, sym, ◌∙◌, ap}
+use Rattle.std.proofs.Common.{◌≡◌, ℕ, List, Ok, refl, sym, ◌∙◌, ap, arith}
 use Rattle.oc_linking.specs.{declared.terms.Keep.{Keep}, Keeping.{all, keeps}, Numbers.{or_else}}
 use Rattle.oc_neutral.specs.{Objects.{Object}, Dialects.{Dialect}}
 use Rattle.oc_shows.specs.{Computed.{object_in}, Seen.{seen}}
@@ -8,14 +8,14 @@ use Rattle.oc_target.proofs.SeenLaws.{seen_is_object_law}
 use Rattle.oc_shows.proofs.ShownComputed.{shown_is_computed}
 use Rattle.oc_names.specs.{Wishes.{no_wishes}, Edited.{edited}, Kept.{keep_for}}
 use Rattle.oc_convert.specs.{Refusals.{object_refusal, edited_refusal, kept_of_file}, Converted.{on_ok}}
-use Rattle.oc_elf.specs.{declared.class.ElfClass.{ElfClass}, declared.class.ElfClass.TheVariants.{Class32, Class64, Big32, Big64}, Elf.{elf_dialect}}
+use Rattle.oc_elf.specs.{declared.class.ElfClass.{ElfClass}, Elf.{elf_dialect}}
 use Rattle.oc_elf_file.specs.Canonical.{elf_file}
 use Rattle.oc_elf_file.proofs.{CodedLaws.{for_elf}, WrittenLaw.{elf_is_written}}
 use Rattle.oc_names.proofs.Unedited.{nothing_edited}
 use Rattle.oc_canonical.proofs.{FittedStays.{fitted_stays}, ElfAgain.{elf_file_again}, ElfStays.{elf_seen_fitted}, CoffAgain.{coff_file_again}}
 use Rattle.oc_canonical.proofs.{CoffStays.{coff_seen_fitted}, MachAgain.{mach_file_again}, MachStays.{mach_seen_fitted}}
-use Rattle.oc_base.specs.{declared.format.Word.{Word}, declared.format.Word.TheVariants.{W32, W64}}
-use Rattle.oc_coff.specs.{declared.form.CoffForm.{CoffForm}, declared.form.CoffForm.TheVariants.{Usual32, Usual64, Big32, Big64}, Rules.{coff_dialect}}
+use Rattle.oc_base.specs.declared.format.Word.{Word}
+use Rattle.oc_coff.specs.{declared.form.CoffForm.{CoffForm}, Rules.{coff_dialect}}
 use Rattle.oc_coff_file.specs.Canonical.{coff_file}
 use Rattle.oc_coff_file.proofs.{CodedLaws.{for_coff}, WrittenLaw.{coff_is_written}}
 use Rattle.oc_macho.specs.Rules.{mach_dialect}
@@ -72,10 +72,7 @@ own_of_all g canonical law every n fits =
     }
 
 elf_keeps : (class : ElfClass) → kept_of_file no_wishes (elf_dialect class) (elf_dialect class).format ≡ all
-elf_keeps Class32 = refl
-elf_keeps Class64 = refl
-elf_keeps Big32 = refl
-elf_keeps Big64 = refl
+elf_keeps class = grind arith
 
 pub elf_reads_back : ElfReadsBack
 elf_reads_back class = record {
@@ -85,10 +82,7 @@ elf_reads_back class = record {
 }
 
 coff_keeps : (w : CoffForm) → kept_of_file no_wishes (coff_dialect w) (coff_dialect w).format ≡ all
-coff_keeps Usual32 = refl
-coff_keeps Usual64 = refl
-coff_keeps Big32 = refl
-coff_keeps Big64 = refl
+coff_keeps w = grind arith
 
 pub coff_reads_back : CoffReadsBack
 coff_reads_back w = record {
@@ -98,8 +92,7 @@ coff_reads_back w = record {
 }
 
 mach_keeps : (w : Word) → kept_of_file no_wishes (mach_dialect w) (mach_dialect w).format ≡ all
-mach_keeps W32 = refl
-mach_keeps W64 = refl
+mach_keeps w = grind arith
 
 pub mach_reads_back : MachReadsBack
 mach_reads_back w = record {

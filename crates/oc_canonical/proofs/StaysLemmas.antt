@@ -1,9 +1,8 @@
 -- What stays of the conditions of all families where an object is seen.
-use Rattle.std.proofs.Common.{◌≡◌, ℕ, suc, ◌+◌, ◌≤◌, Bool, true, false, cond, not, ◌&&◌, ◌||◌, List, [], ◌∷◌, length, map, Option, Some, None, refl, sym, ◌∙◌, ap}
+use Rattle.std.proofs.Common.{◌≡◌, ℕ, suc, ◌+◌, ◌≤◌, Bool, true, false, cond, not, ◌&&◌, ◌||◌, List, [], ◌∷◌, length, map, Option, Some, None, refl, sym, ◌∙◌, ap, arith}
 use Rattle.std.specs.{Prelude.{find}, List.{AllByRecursion, enumerate_from, list_any}, Option.{option_map_or}}
 use Rattle.oc_base.specs.{declared.format.Format.{Format}, Formats.{word_for}}
-use Rattle.oc_linking.specs.{declared.terms.Base.{Base}, declared.terms.Fallback.{Fallback}, declared.terms.Binding.{Binding}}
-use Rattle.oc_linking.specs.{declared.terms.Binding.TheVariants.{Local, Global, Undefined, Common, Weak}, declared.terms.Hint.{Hint}}
+use Rattle.oc_linking.specs.{declared.terms.Base.{Base}, declared.terms.Fallback.{Fallback}, declared.terms.Binding.{Binding}, declared.terms.Hint.{Hint}}
 use Rattle.oc_linking.specs.{declared.terms.Hint.TheVariants.{Plain, Call}, Numbers.{or_else}}
 use Rattle.oc_linking.specs.declared.terms.Base.TheVariants as base
 use Rattle.oc_linking.specs.declared.terms.Fallback.TheVariants as fallback
@@ -24,8 +23,7 @@ use Rattle.oc_canonical.proofs.MapLemmas.{any_mapped}
 use Rattle.oc_elf_file.proofs.TableClean.{none_right}
 
 pub none_member : {X : Type 0} (o : Option X) → option_map_or (λ x. false) o false ≡ false
-none_member None = refl
-none_member (Some x) = refl
+none_member o = grind arith
 
 module _ (m : Manner) (n : Object) (shown : List (ℕ × ℕ)) (is : IsShown n shown) where
   abbrev a : Object
@@ -55,22 +53,13 @@ module _ (m : Manner) (n : Object) (shown : List (ℕ × ℕ)) (is : IsShown n s
   zero_same (fallback.Name k) = by (cond m.places (place_at n k) None)
     where
       by : (o : Option Place) → is_zero (option_map_or (λ (place : Place). fallback.Place place.0 place.1) o (fallback.Name (new_position shown k))) ≡ false
-      by None = refl
-      by (Some place) = refl
+      by o = grind arith
 
   homeless_same : (b : Binding) → is_homeless (seen_binding m n shown b) ≡ is_homeless b
-  homeless_same (Local v) = refl
-  homeless_same (Global v) = refl
-  homeless_same Undefined = refl
-  homeless_same (Common size align) = refl
-  homeless_same (Weak f) = zero_same f
+  homeless_same b = grind arith
 
   number_same : (b : Binding) → is_local_number (seen_binding m n shown b) ≡ is_local_number b
-  number_same (Local v) = refl
-  number_same (Global v) = refl
-  number_same Undefined = refl
-  number_same (Common size align) = refl
-  number_same (Weak f) = refl
+  number_same b = grind arith
 
   nonlocal_same : (b : Binding) → is_nonlocal (seen_binding m n shown b) ≡ is_nonlocal b
   nonlocal_same b = ap not (seen_local m n shown is b)
@@ -86,10 +75,7 @@ module _ (m : Manner) (n : Object) (shown : List (ℕ × ℕ)) (is : IsShown n s
         ∙ sym (ap (λ o. option_map_or (λ (x : Symbol). test x.binding) o false) y.1)
 
     no_slot : (b : Base) → b ≡ base.Address → (form : Form) → form.base ≡ b → needs_slot form ≡ false
-    no_slot base.Address e form own = ap (λ x. same_base x base.Slot || same_base x base.GotBase) own
-    no_slot base.Slot e form own = absurd (cc)
-    no_slot base.GotBase e form own = absurd (cc)
-    no_slot base.HomeNumber e form own = absurd (cc)
+    no_slot b e form own = grind arith
 
     -- a target that no form can have is none where it was none
     pub target_stays : is_wrong_target n r ≡ false → is_wrong_target a (seen_reloc m n shown r) ≡ false
@@ -111,8 +97,7 @@ module _ (m : Manner) (n : Object) (shown : List (ℕ × ℕ)) (is : IsShown n s
 -- ... formats without types for calls write a call as the plain form
 
 or_twice : {X : Type 0} (o : Option X) → or_else o o ≡ o
-or_twice None = refl
-or_twice (Some x) = refl
+or_twice o = grind arith
 
 no_call : (form : Form) (t : Taken) (rows : List Row) → AllByRecursion (λ (r : Row). same_hint r.hint Call ≡ false) rows → find (is_written form Call t) rows ≡ None
 no_call form t [] plain = refl

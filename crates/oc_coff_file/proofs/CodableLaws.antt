@@ -2,14 +2,13 @@
 use Rattle.std.proofs.Common.{◌≡◌, ℕ, zero, suc, ◌+◌, ◌*◌, ◌^◌, ◌<◌, ◌≤◌, Bool, true, false, cond, eqb, List, [], ◌∷◌, length, map, Option, Some, None, refl, sym, ap, subst, arith, inl, inr}
 use Rattle.std.specs.{Prelude.{slice_get, min, flat_map}, Option.{option_map_or}}
 use Rattle.std.proofs.lemmas.{Bool.{cases_lt}, Option.{same_Some, slice_get_within}}
-use Rattle.oc_base.specs.{declared.format.Word.{Word}, declared.format.Word.TheVariants.{W32, W64}}
-use Rattle.oc_coff.specs.{declared.form.CoffForm.{CoffForm}, declared.form.Shape.{Shape}, declared.form.Shape.TheVariants.{Usual, Big}}
-use Rattle.oc_coff.specs.{Forms.{shape_of, word_of}, FileHeader.{file_header_numbers}, SectionAux.{section_aux_numbers}}
-use Rattle.oc_coff.specs.{declared.relocation.Relocation.{Relocation}, Relocation.{relocation_bytes}}
+use Rattle.oc_base.specs.declared.format.Word.{Word}
+use Rattle.oc_coff.specs.{declared.form.CoffForm.{CoffForm}, declared.form.Shape.{Shape}, Forms.{shape_of, word_of}, FileHeader.{file_header_numbers}}
+use Rattle.oc_coff.specs.{SectionAux.{section_aux_numbers}, declared.relocation.Relocation.{Relocation}, Relocation.{relocation_bytes}}
 use Rattle.oc_coff.specs.Flags.{is_crowded, count_entry, with_count, pointer_to, machine_of, version_of}
 use Rattle.oc_coff.specs.Values.{numbers_of, numbers_by, default_numbers, type_by, class_by, aux_by}
 use Rattle.oc_base.proofs.NumberLaws.{length-table}
-use Rattle.oc_linking.specs.{declared.terms.Mark.{Mark}, declared.terms.Mark.TheVariants.{NoType, Object as ObjectMark, Function}, declared.terms.Value.{Value}}
+use Rattle.oc_linking.specs.{declared.terms.Mark.{Mark}, declared.terms.Mark.TheVariants.{Object as ObjectMark}, declared.terms.Value.{Value}}
 use Rattle.oc_linking.specs.{declared.terms.Fallback.{Fallback}, declared.terms.Binding.{Binding}}
 use Rattle.oc_linking.specs.{declared.terms.Binding.TheVariants.{Local, Global, Undefined, Common, Weak}, Parts.{is_local}}
 use Rattle.oc_chains.specs.Lists.{list_of}
@@ -51,8 +50,7 @@ pointer_low : (place size : ℕ) → pointer_to place size ≤ place
 pointer_low place size = by (eqb size 0)
   where
     by : (b : Bool) → cond b 0 place ≤ place
-    by true = omega arith
-    by false = omega arith
+    by b = grind arith
 
 module _ (w : CoffForm) (n : Object) (is : IsForCoff w n) where
   abbrev relocs : ℕ → List Relocation
@@ -120,23 +118,13 @@ module _ (w : CoffForm) (n : Object) (is : IsForCoff w n) where
   default_low (Weak (fallback.Name j)) c = (omega arith, no_number)
 
   type_low : (m : Mark) → type_by m < 2 ^ 16
-  type_low NoType = omega arith
-  type_low ObjectMark = omega arith
-  type_low Function = omega arith
+  type_low m = grind arith
 
   class_low : (b : Binding) → class_by b < 2 ^ 8
-  class_low (Local v) = omega arith
-  class_low (Global v) = omega arith
-  class_low Undefined = omega arith
-  class_low (Common size align) = omega arith
-  class_low (Weak f) = omega arith
+  class_low b = grind arith
 
   aux_low : (b : Binding) → aux_by b < 2 ^ 8
-  aux_low (Local v) = omega arith
-  aux_low (Global v) = omega arith
-  aux_low Undefined = omega arith
-  aux_low (Common size align) = omega arith
-  aux_low (Weak f) = omega arith
+  aux_low b = grind arith
 
   -- ... entries
 
@@ -188,9 +176,7 @@ module _ (w : CoffForm) (n : Object) (is : IsForCoff w n) where
           subst (IsOther (shape_of w)) (sym x.number) (other_room w n is x.position (slice_get_within n.sections x.position x.section x.here))
 
       selected : (o : Option ℕ) (b : Bool) → option_map_or (λ g. cond b 2 5) o 0 < 2 ^ 8
-      selected None b = omega arith
-      selected (Some g) true = omega arith
-      selected (Some g) false = omega arith
+      selected o b = grind arith
 
   -- ... relocations
 
@@ -226,8 +212,7 @@ module _ (w : CoffForm) (n : Object) (is : IsForCoff w n) where
   ]
     where
       counted : (rs : List Relocation) (b : Bool) → length rs ≤ length (cond b (count_entry rs ∷ rs) rs)
-      counted rs true = omega arith
-      counted rs false = omega arith
+      counted rs b = grind arith
 
       of_section : (s : Section) → slice_get n.sections k ≡ Some s → length (relocs_of w (numbered_lines w n) n k) + 1 < 2 ^ 32
       of_section s here =
@@ -262,12 +247,10 @@ module _ (w : CoffForm) (n : Object) (is : IsForCoff w n) where
       (omega arith, (omega arith, (omega (arith, size), (omega (arith, small, raw, a), (omega (arith, small, table, b), (omega arith, (omega (arith, count), (omega arith, (omega (arith, flags), tt)))))))))
 
   machine_low : (w : Word) → machine_of w < 2 ^ 16
-  machine_low W32 = omega arith
-  machine_low W64 = omega arith
+  machine_low w = grind arith
 
   version_low : (z : Shape) → version_of z < 2 ^ 16
-  version_low Usual = omega arith
-  version_low Big = omega arith
+  version_low z = grind arith
 
   head_fits : Fit (file_header_numbers (shape_of w) (file_header w n))
   unfolding file_header
@@ -285,8 +268,7 @@ module _ (w : CoffForm) (n : Object) (is : IsForCoff w n) where
   sized k s here many = by (is_zero s.kind) (coded_section w n is k s here).bytes
     where
       by : (b : Bool) → length s.bytes ≡ cond b 0 s.size → s.size ≡ length s.bytes
-      by true e = absurd (omega (arith, e, many))
-      by false e = sym e
+      by b e = grind arith
 
   pub has_numbers : HasNumbers w n
   unfolding text_of

@@ -1,13 +1,12 @@
 -- What COFF can say of an object that is ready for it: of its sections, and of the symbols of its lines.
-use Rattle.oc_coff.specs.{declared.form.Shape.TheVariants.{Usual}, declared.form.CoffForm.{CoffForm}}
-use Rattle.oc_coff.specs.{declared.form.CoffForm.TheVariants.{Usual32, Usual64, Big32, Big64}, Forms.{format_of, shape_of}, Values.{class_by}}
-use Rattle.oc_coff_file.proofs.{StructureLaws.{IsNumber, IsOther, IsCounted, low_number}, LineLaws.{IsLineOf, line_is_of}}
+use Rattle.oc_coff_file.proofs.{StructureLaws.{IsNumber, IsOther, IsCounted}, LineLaws.{IsLineOf, line_is_of}}
 use Rattle.std.proofs.Common.{◌+◌, ◌≡◌, ℕ, ◌^◌, ◌<◌, ◌≤◌, ◌≢◌, Bool, true, false, cond, not, List, [], ◌∷◌, length, Some, refl, sym, ◌∙◌, ap, subst, arith}
 use Rattle.std.specs.{Prelude.{slice_get, nat_lt}, Option.{unwrap_or}}
-use Rattle.std.proofs.lemmas.Bool.{true≢false, ltb-true}
+use Rattle.std.proofs.lemmas.Bool.{true≢false}
+use Rattle.oc_coff.specs.{declared.form.CoffForm.{CoffForm}, declared.form.CoffForm.TheVariants.{Usual32, Usual64, Big32, Big64}, Forms.{format_of, shape_of}}
+use Rattle.oc_coff.specs.Values.{class_by}
 use Rattle.oc_base.specs.{Formats.{word_for}, Strings.{is_given}}
-use Rattle.oc_linking.specs.{Numbers.{modulus}, declared.terms.Kind.{Kind}}
-use Rattle.oc_linking.specs.{declared.terms.Kind.TheVariants.{Code, ReadOnly, Data, Zero, Init, Fini, Debug, Exception, Note}, declared.terms.Value.{Value}}
+use Rattle.oc_linking.specs.{Numbers.{modulus}, declared.terms.Kind.{Kind}, declared.terms.Kind.TheVariants.{Zero}, declared.terms.Value.{Value}}
 use Rattle.oc_linking.specs.{declared.terms.Fallback.{Fallback}, declared.terms.Binding.{Binding}}
 use Rattle.oc_linking.specs.{declared.terms.Binding.TheVariants.{Local, Global, Undefined, Common, Weak}, Parts.{is_local}}
 use Rattle.oc_linking.specs.declared.terms.Value.TheVariants as value
@@ -33,40 +32,25 @@ pub for_coff : (w : CoffForm) (n : Object) → IsFitted (format_of w) n → IsFo
 for_coff w n fits = record { object = fits.object; format = fits.format; meets = meets_coff (format_of w) n (family w) fits }
   where
     family : (w : CoffForm) → container_of (format_of w) ≡ IsCoff
-    family Usual32 = refl
-    family Usual64 = refl
-    family Big32 = refl
-    family Big64 = refl
+    family w = grind arith
 
 -- ... how many sections there are
 
 -- no form is for more
 pub fewest : (w : CoffForm) (n : Object) → IsForCoff w n → length n.sections ≤ 4194304
-fewest Usual32 n is = let few = is.meets.few in omega (arith, few)
-fewest Usual64 n is = let few = is.meets.few in omega (arith, few)
-fewest Big32 n is = let few = is.meets.few in omega (arith, few)
-fewest Big64 n is = let few = is.meets.few in omega (arith, few)
+fewest w n is = grind arith
 
 -- the number of a section has room
 pub number_room : (w : CoffForm) (n : Object) → IsForCoff w n → (k : ℕ) → k < length n.sections → IsNumber (shape_of w) (k + 1)
-number_room Usual32 n is k low = let few = is.meets.few in low_number Usual (k + 1) (omega (arith, few, low))
-number_room Usual64 n is k low = let few = is.meets.few in low_number Usual (k + 1) (omega (arith, few, low))
-number_room Big32 n is k low = let few = is.meets.few in (omega (arith, few, low), tt)
-number_room Big64 n is k low = let few = is.meets.few in (omega (arith, few, low), tt)
+number_room w n is k low = grind arith
 
 -- so has that of another section
 pub other_room : (w : CoffForm) (n : Object) → IsForCoff w n → (k : ℕ) → k < length n.sections → IsOther (shape_of w) (k + 1)
-other_room Usual32 n is k low = let few = is.meets.few in omega (arith, few, low)
-other_room Usual64 n is k low = let few = is.meets.few in omega (arith, few, low)
-other_room Big32 n is k low = let few = is.meets.few in omega (arith, few, low)
-other_room Big64 n is k low = let few = is.meets.few in omega (arith, few, low)
+other_room w n is k low = grind arith
 
 -- and their count
 pub counted_room : (w : CoffForm) (n : Object) → IsForCoff w n → IsCounted (shape_of w) (length n.sections)
-counted_room Usual32 n is = let few = is.meets.few in omega (arith, few)
-counted_room Usual64 n is = let few = is.meets.few in omega (arith, few)
-counted_room Big32 n is = let few = is.meets.few in omega (arith, few)
-counted_room Big64 n is = let few = is.meets.few in omega (arith, few)
+counted_room w n is = grind arith
 
 -- ... sections
 
@@ -92,26 +76,10 @@ pub record IsCodedSection (w : CoffForm) (n : Object) (s : Section) : Type 0 whe
   pub size : s.size ≤ 2147483647
 
 pub zero_kind : (k : Kind) → same_kind Zero k ≡ is_zero k
-zero_kind Code = refl
-zero_kind ReadOnly = refl
-zero_kind Data = refl
-zero_kind Zero = refl
-zero_kind Init = refl
-zero_kind Fini = refl
-zero_kind Debug = refl
-zero_kind Exception = refl
-zero_kind Note = refl
+zero_kind k = grind arith
 
 zero_is : (k : Kind) → is_zero k ≡ true → k ≡ Zero
-zero_is Code e = absurd (true≢false (sym e))
-zero_is ReadOnly e = absurd (true≢false (sym e))
-zero_is Data e = absurd (true≢false (sym e))
-zero_is Zero e = refl
-zero_is Init e = absurd (true≢false (sym e))
-zero_is Fini e = absurd (true≢false (sym e))
-zero_is Debug e = absurd (true≢false (sym e))
-zero_is Exception e = absurd (true≢false (sym e))
-zero_is Note e = absurd (true≢false (sym e))
+zero_is k e = grind arith
 
 -- ... symbols
 
@@ -153,15 +121,10 @@ some_bytes [] some = absurd (some refl)
 some_bytes (c ∷ name) some = omega arith
 
 not_weak : (b : Binding) → is_strong b ≡ true → (is_local b ≡ false) × (class_by b ≡ 2)
-not_weak (Local v) e = absurd (true≢false (sym e))
-not_weak (Global v) e = (refl, refl)
-not_weak Undefined e = (refl, refl)
-not_weak (Common size align) e = (refl, refl)
-not_weak (Weak f) e = absurd (true≢false (sym e))
+not_weak b e = grind arith
 
 short_number : (b : Bool) (x : ℕ) → nat_lt x (2 ^ 32) ≡ b → not (not b) ≡ true → x < 2 ^ 32
-short_number true x h e = ltb-true x (2 ^ 32) h
-short_number false x h e = absurd (true≢false (sym e))
+short_number b x h e = grind arith
 
 module _ (w : CoffForm) (n : Object) (is : IsForCoff w n) where
   pub coded_section : (k : ℕ) (s : Section) → slice_get n.sections k ≡ Some s → IsCodedSection w n s
@@ -191,9 +154,7 @@ module _ (w : CoffForm) (n : Object) (is : IsForCoff w n) where
   meets_symbol k s here = is.meets.symbols k s here
 
   coded_fallback : (f : Fallback) → IsFallback n f → IsCodedFallback n f
-  coded_fallback (fallback.Place k offset) own = own
-  coded_fallback fallback.Zero own = tt
-  coded_fallback (fallback.Name j) own = let e = not_weak own.0.binding own.2 in (own.0, own.1, e.0, e.1)
+  coded_fallback f own = grind arith
 
   -- a Local that is written has 32 bits
   short_local : (w : CoffForm) → n.format ≡ format_of w → (name : List ℕ) (x : ℕ) → IsBinding n (Local (value.Absolute x))
@@ -204,12 +165,7 @@ module _ (w : CoffForm) (n : Object) (is : IsForCoff w n) where
   short_local Big64 format name x own e = short_number (nat_lt x (2 ^ 32)) x refl e
 
   coded_local : (name : List ℕ) (b : Binding) → is_local b ≡ true → IsBinding n b → is_written_as (format_of w) name b ≡ true → IsCodedBinding n b
-  coded_local name (Local (value.Place k offset)) e own written = own
-  coded_local name (Local (value.Absolute x)) e own written = short_local w is.format name x own written
-  coded_local name (Global v) e own written = absurd (true≢false (sym e))
-  coded_local name Undefined e own written = absurd (true≢false (sym e))
-  coded_local name (Common size align) e own written = absurd (true≢false (sym e))
-  coded_local name (Weak f) e own written = absurd (true≢false (sym e))
+  coded_local name b e own written = grind arith
 
   coded_outer : (k : ℕ) (s : Symbol) → slice_get n.symbols k ≡ Some s → (b : Binding) → s.binding ≡ b → is_local b ≡ false → IsBinding n b → IsCodedBinding n b
   coded_outer k s here (Local v) e outer own = absurd (true≢false outer)
@@ -225,11 +181,7 @@ module _ (w : CoffForm) (n : Object) (is : IsForCoff w n) where
       record { some = some_bytes s.name (symbol_is k s here).named; plain = m.name; given = m.given written; binding = binding }
 
   outer_written : (w : CoffForm) (name : List ℕ) (b : Binding) → is_local b ≡ false → is_written_as (format_of w) name b ≡ true
-  outer_written w name (Local v) e = absurd (true≢false e)
-  outer_written w name (Global v) e = refl
-  outer_written w name Undefined e = refl
-  outer_written w name (Common size align) e = refl
-  outer_written w name (Weak f) e = refl
+  outer_written w name b e = grind arith
 
   pub outer_coded : (k : ℕ) (s : Symbol) → slice_get n.symbols k ≡ Some s → is_local s.binding ≡ false → IsCodedSymbol w n s
   outer_coded k s here outer = coded_symbol k s here (outer_written w s.name s.binding outer) (coded_outer k s here s.binding refl outer (symbol_is k s here).binding)
@@ -239,11 +191,7 @@ module _ (w : CoffForm) (n : Object) (is : IsForCoff w n) where
   weak_default s e = by s.binding refl e
     where
       by : (b : Binding) → s.binding ≡ b → is_weak_with has_default b ≡ true → (f : Fallback) × (s.binding ≡ Weak f) × (has_default f ≡ true)
-      by (Local v) h e = absurd (true≢false (sym e))
-      by (Global v) h e = absurd (true≢false (sym e))
-      by Undefined h e = absurd (true≢false (sym e))
-      by (Common size align) h e = absurd (true≢false (sym e))
-      by (Weak f) h e = (f, h, e)
+      by b h e = grind arith
 
   pub coded_line : (k : ℕ) (line : Line) → slice_get (lines_of w n) k ≡ Some line → IsCodedLine w n line
   coded_line k line here = by line (line_is_of w n k line here)

@@ -53,30 +53,16 @@ module _ (w : CoffForm) (n : Object) where
   aux_slot aux rest = cond (eqb (length aux) 0) None (first_of (map (read_row (shape_of w)) aux ++ rest))
 
   outer_read : (lines : List (Laid Line)) (k : ℕ) (b : Binding) (rest : List Slot) → aux_slot (outer_aux (shape_of w) lines k b) rest ≡ outer_slot (shape_of w) lines k b
-  outer_read lines k (Local v) rest = refl
-  outer_read lines k (Global v) rest = refl
-  outer_read lines k Undefined rest = refl
-  outer_read lines k (Common size align) rest = refl
-  outer_read lines k (Weak f) rest = refl
+  outer_read lines k b rest = grind arith
 
   line_read : (line : Line) (rest : List Slot) → aux_slot (line_aux w n line) rest ≡ line_slot w n line
-  line_read (SectionLine k s) rest = refl
-  line_read (LocalLine k s) rest = refl
-  line_read (DefaultLine k s) rest = refl
-  line_read (OuterLine k s) rest = outer_read (numbered_lines w n) k s.binding rest
+  line_read line rest = grind arith
 
   outer_count : (lines : List (Laid Line)) (k : ℕ) (b : Binding) → aux_by b ≡ length (outer_aux (shape_of w) lines k b)
-  outer_count lines k (Local v) = refl
-  outer_count lines k (Global v) = refl
-  outer_count lines k Undefined = refl
-  outer_count lines k (Common size align) = refl
-  outer_count lines k (Weak f) = refl
+  outer_count lines k b = grind arith
 
   pub aux_count : (line : Line) → (line_entry w n line).NumberOfAuxSymbols ≡ length (line_aux w n line)
-  aux_count (SectionLine k s) = refl
-  aux_count (LocalLine k s) = refl
-  aux_count (DefaultLine k s) = refl
-  aux_count (OuterLine k s) = outer_count (numbered_lines w n) k s.binding
+  aux_count line = grind arith
 
   pub sized_aux : (line : Line) → 1 + length (line_aux w n line) ≡ line_size line
   unfolding line_rows

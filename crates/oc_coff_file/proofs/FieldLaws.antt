@@ -3,9 +3,8 @@ use Rattle.std.proofs.Common.{◌≡◌, ℕ, ◌+◌, ◌%◌, ◌<◌, ◌≤�
 use Rattle.std.specs.{Prelude.{◌+ℤ◌, slice_get, find}, List.{enumerate_from, AllByRecursion}, Option.{option_map, option_map_or, option_and_then}}
 use Rattle.std.proofs.lemmas.{Bool.{eqb-true, ne_eqb, cases_lt}, Option.{none-some, same_Some, slice_get_past}, List.{length-map}}
 use Rattle.std.proofs.lemmas.List.FromFn.{length-enumerate_from}
-use Rattle.oc_coff.specs.{declared.form.CoffForm.{CoffForm}, declared.form.CoffForm.TheVariants.{Usual32, Usual64, Big32, Big64}}
-use Rattle.oc_coff.specs.{declared.relocation.Relocation.{Relocation}, Sections.{carried_in}, Targets.{target_in}, Forms.{coff_format, format_of, word_of}}
-use Rattle.oc_coff.specs.Fields.{relocates, field_by, field_in, fields_in}
+use Rattle.oc_coff.specs.{declared.form.CoffForm.{CoffForm}, declared.relocation.Relocation.{Relocation}, Sections.{carried_in}, Targets.{target_in}}
+use Rattle.oc_coff.specs.{Forms.{coff_format, format_of, word_of}, Fields.{relocates, field_by, field_in, fields_in}}
 use Rattle.oc_base.specs.{Formats.{word_for}, Numbers.{number_at}}
 use Rattle.oc_linking.specs.{declared.terms.Width.{Width}, declared.terms.Check.{Check}, declared.terms.Base.{Base}, declared.terms.Hint.{Hint}}
 use Rattle.oc_linking.specs.{declared.terms.Patch.{Patch}, declared.terms.Less.{Less}, declared.terms.Kind.TheVariants.{Zero}, Fits.{bytes_of, span}}
@@ -52,17 +51,11 @@ find_by_offset w lines (x ∷ xs) at says =
 
 -- no row of COFF takes a section
 no_sections : (w : CoffForm) → AllByRecursion (λ (row : Row). same_taken row.taken TakesSection ≡ false) (rows_of (format_of w))
-no_sections Usual32 = (refl, (refl, (refl, (refl, (refl, tt)))))
-no_sections Usual64 = (refl, (refl, (refl, (refl, (refl, (refl, (refl, (refl, (refl, (refl, (refl, tt)))))))))))
-no_sections Big32 = (refl, (refl, (refl, (refl, (refl, tt)))))
-no_sections Big64 = (refl, (refl, (refl, (refl, (refl, (refl, (refl, (refl, (refl, (refl, (refl, tt)))))))))))
+no_sections w = grind arith
 
 -- a word and a form have the same rows
 pub row_same : (w : CoffForm) (number : ℕ) → row_of (coff_format (word_of w)) number ≡ row_of (format_of w) number
-row_same Usual32 number = refl
-row_same Usual64 number = refl
-row_same Big32 number = refl
-row_same Big64 number = refl
+row_same w number = grind arith
 
 module _ (w : CoffForm) (n : Object) (is : IsForCoff w n) where
   abbrev lines : List (Laid Line)
@@ -97,10 +90,7 @@ module _ (w : CoffForm) (n : Object) (is : IsForCoff w n) where
     number_is = ap (λ f. number_or (to_field_of f r.form.width (shift_of row) r.addend)) (sym (word_back w)) ∙ ap number_or coff_reloc.holds.1
       where
         word_back : (w : CoffForm) → word_for (format_of w) ≡ word_of w
-        word_back Usual32 = refl
-        word_back Usual64 = refl
-        word_back Big32 = refl
-        word_back Big64 = refl
+        word_back w = grind arith
 
     pub row_takes : rows.less_of row.taken k ≡ r.form.less
     row_takes = less_back r.form.less row.taken k coff_reloc.taken (each_at (λ (x : Row). same_taken x.taken TakesSection ≡ false) (rows_of (format_of w)) meets.is.position row (no_sections w) meets.is.there)
@@ -140,8 +130,7 @@ module _ (w : CoffForm) (n : Object) (is : IsForCoff w n) where
       by (is_zero s.kind) refl c.bytes (omega (arith, low, wide))
     where
       by : (b : Bool) → is_zero s.kind ≡ b → length s.bytes ≡ cond b 0 s.size → 1 ≤ length s.bytes → (is_zero s.kind ≡ false) × (length s.bytes ≡ s.size)
-      by true e bytes many = absurd (omega (arith, bytes, many))
-      by false e bytes many = (e, bytes)
+      by b e bytes many = grind arith
 
   -- the number in a field
   number_there : (k : ℕ) (s : Section) → slice_get n.sections k ≡ Some s → (at : ℕ) (r : Reloc) → reloc_at n k at ≡ Some r
@@ -181,10 +170,7 @@ module _ (w : CoffForm) (n : Object) (is : IsForCoff w n) where
       ∙ ap (λ h. made r.form.base r.form.less r.form.width r.form.check (reduced_number (word_for n.format) r.addend) h) (coff_reloc k at r there).hint
     where
       word_back : (w : CoffForm) → word_for (format_of w) ≡ word_of w
-      word_back Usual32 = refl
-      word_back Usual64 = refl
-      word_back Big32 = refl
-      word_back Big64 = refl
+      word_back w = grind arith
 
   -- ... fields of a section
 

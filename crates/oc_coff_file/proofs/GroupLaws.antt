@@ -17,8 +17,7 @@ use Rattle.oc_coff_file.specs.Canonical.{leader_number, leads}
 use Rattle.oc_coff_file.proofs.{EntryLaws.{made_entry}, LineLaws.{each_filter}}
 
 and_false : (a : Bool) → (a && false) ≡ false
-and_false true = refl
-and_false false = refl
+and_false a = grind arith
 
 -- what passes a test that something passes
 pub record IsOne {X : Type 0} (test : X → Bool) (xs : List X) : Type 0 where
@@ -42,12 +41,10 @@ first_passing {X} test (x ∷ xs) e = by (test x) refl e (λ h. first_passing te
 
 -- a place that passes a test
 placed_by : (test : Place → Bool) (o : Option Place) → option_map_or test o false ≡ true → (q : Place) × (o ≡ Some q) × (test q ≡ true)
-placed_by test None e = absurd (true≢false (sym e))
-placed_by test (Some q) e = (q, refl, e)
+placed_by test o e = grind arith
 
 numbered_by : (test : ℕ → Bool) (o : Option ℕ) → option_map_or test o false ≡ true → (g : ℕ) × (o ≡ Some g) × (test g ≡ true)
-numbered_by test None e = absurd (true≢false (sym e))
-numbered_by test (Some g) e = (g, refl, e)
+numbered_by test o e = grind arith
 
 -- what has the place of a Global is one
 global_numbers : (b : Binding) (place : Place) → global_place b ≡ Some place → (numbers_by b ≡ (place.1, place.0 + 1)) × (b ≡ Global (value.Place place.0 place.1))
@@ -95,8 +92,7 @@ module _ (n : Object) where
   of_group k g e = by (slice_get n.sections k) refl e
     where
       by : (o : Option Section) → slice_get n.sections k ≡ o → option_and_then (λ (x : Section). x.group) o ≡ Some g → (x : Section) × (slice_get n.sections k ≡ Some x) × (x.group ≡ Some g)
-      by None h e = absurd (none-some g e)
-      by (Some x) h e = (x, h, e)
+      by o h e = grind arith
 
   -- the section that leads a group
   pub record IsLeader (g : ℕ) : Type 0 where

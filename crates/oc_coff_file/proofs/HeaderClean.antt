@@ -1,10 +1,10 @@
 -- The header of a canonical file is well formed.
-use Rattle.std.proofs.Common.{not, ◌≡◌, ℕ, ◌+◌, ◌*◌, ◌≤◌, true, false, eqb, List, length, refl, ap, arith}
+use Rattle.std.proofs.Common.{◌≡◌, ℕ, ◌+◌, ◌*◌, ◌≤◌, true, false, eqb, List, length, refl, arith}
 use Rattle.std.specs.Prelude.{flat_map, nat_lt}
 use Rattle.std.proofs.lemmas.{Bool.{ne_eqb, lt-ltb}, Bool.Decides.{nat_tests}}
-use Rattle.oc_coff.specs.{declared.form.CoffForm.{CoffForm}, declared.form.Shape.{Shape}, declared.form.Shape.TheVariants.{Usual, Big}}
-use Rattle.oc_coff.specs.{Forms.{header_size, shape_of, symbol_size}, declared.file_header.FileHeader.{FileHeader}, SectionHeader.{section_header_bytes}}
-use Rattle.oc_coff.specs.{Flags.{version_of}, HeaderFaults.{foreign_condition, header_conditions}}
+use Rattle.oc_coff.specs.{declared.form.CoffForm.{CoffForm}, declared.form.Shape.{Shape}, Forms.{header_size, shape_of, symbol_size}}
+use Rattle.oc_coff.specs.{declared.file_header.FileHeader.{FileHeader}, SectionHeader.{section_header_bytes}, Flags.{version_of}}
+use Rattle.oc_coff.specs.HeaderFaults.{foreign_condition, header_conditions}
 use Rattle.oc_neutral.specs.Objects.{Object}
 use Rattle.oc_shelf.proofs.{WritingLaws.StandingLemmas.{stands_inside}, ReadingLaws.StageLemmas.{Unbroken}}
 use Rattle.oc_coff_file.specs.{Lines.{entry_count}, Layout.{SectionHeads, text_of}, Canonical.{headers_of, file_header, coff_file, part_bytes}}
@@ -43,8 +43,7 @@ module _ (w : CoffForm) (n : Object) (fits : IsCodable w n) where
 
   -- what the header says is of an object
   native : (z : Shape) (h : FileHeader) → h.SizeOfOptionalHeader ≡ 0 → h.Version ≡ version_of z → (foreign_condition z h).0 ≡ false
-  native Usual h optional version = ap (λ m. not (eqb m 0)) optional
-  native Big h optional version = ap (λ v. nat_lt v 2) version
+  native z h optional version = grind arith
 
   pub header_clean : Unbroken (header_conditions (shape_of w) file (file_header w n))
   unfolding header_conditions

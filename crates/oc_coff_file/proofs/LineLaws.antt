@@ -1,9 +1,9 @@
 -- The lines of an object: what they are, where they are found, and that they are those by which symbols are seen.
 use Rattle.std.proofs.Common.{◌≡◌, ℕ, zero, suc, ◌+◌, ◌≤◌, Bool, true, false, cond, not, ◌&&◌, List, [], ◌∷◌, ◌++◌, length, map, Option, Some, None, refl, sym, ◌∙◌, ap, subst, inl, inr, arith}
 use Rattle.std.specs.{Prelude.{slice_get, nat_eq, filter, filter_map, flat_map}, List.{enumerate_from, cons_option}, Option.{option_map_or}}
-use Rattle.std.proofs.lemmas.{Bool.{true≢false, eqb-true, eq-eqb, and_parts}, Option.{none-some, same_Some}}
+use Rattle.std.proofs.lemmas.{Bool.{true≢false, eq-eqb, and_parts}, Option.{none-some, same_Some}}
 use Rattle.oc_coff.specs.{declared.form.CoffForm.{CoffForm}, Forms.{format_of}}
-use Rattle.oc_linking.specs.{declared.terms.Binding.{Binding}, declared.terms.Binding.TheVariants.{Local, Global, Undefined, Common, Weak}, Parts.{is_local}}
+use Rattle.oc_linking.specs.{declared.terms.Binding.{Binding}, Parts.{is_local}}
 use Rattle.oc_neutral.specs.{declared.section.Section.{Section}, declared.symbol.Symbol.{Symbol}, Objects.{Object}, Normal.{Place}}
 use Rattle.oc_neutral.specs.{KeySymbols.{global_place, is_key_at}, WrittenSymbols.{is_written}}
 use Rattle.oc_shows.specs.SymbolLines.{silent, one, coff_entries, needs_default, is_weak_with, coff_section_lines, coff_lines}
@@ -56,18 +56,13 @@ module _ (w : CoffForm) (n : Object) where
   key_outer k s e = by s.binding (and_parts _ _ e).0
     where
       by : (b : Binding) → option_map_or (λ (place : Place). nat_eq place.0 k) (global_place b) false ≡ true → is_local b ≡ false
-      by (Local v) e = absurd (true≢false (sym e))
-      by (Global v) e = refl
-      by Undefined e = refl
-      by (Common size align) e = refl
-      by (Weak f) e = refl
+      by b e = grind arith
 
   free_outer : (s : Symbol) → is_free n s ≡ true → is_local s.binding ≡ false
   free_outer s e = by (is_local s.binding) (and_parts _ _ e).0
     where
       by : (b : Bool) → not b ≡ true → b ≡ false
-      by true e = absurd (true≢false (sym e))
-      by false e = refl
+      by b e = grind arith
 
   in_section : (j : ℕ) (s : Section) → slice_get n.sections j ≡ Some s → (k : ℕ) (x : Line) → slice_get (section_lines n (j, s)) k ≡ Some x → IsLineOf w n x
   in_section j s here zero x h = subst (IsLineOf w n) (same_Some (SectionLine j s) x h) here
@@ -141,11 +136,7 @@ module _ (w : CoffForm) (n : Object) where
           sized b = cond b 2 1
 
           by : (b : Binding) → option_map_or (λ (place : Place). nat_eq place.0 i) (global_place b) false ≡ true → sized (is_weak_with (λ f. true) b) ≡ 1
-          by (Local v) e = refl
-          by (Global v) e = refl
-          by Undefined e = refl
-          by (Common size align) e = refl
-          by (Weak f) e = absurd (true≢false (sym e))
+          by b e = grind arith
 
       keys : map counted_line (lines_where OuterLine (is_key_at n i) n) ≡ table.lines_where (is_key_at n i) one n.symbols
       keys = counted_where OuterLine one (is_key_at n i) (λ k t e. ap (λ m. record { entries = m; shows = Some k }) (single t e))
@@ -214,22 +205,13 @@ module _ (w : CoffForm) (n : Object) where
   -- ... what tests find
 
   section_is : (k : ℕ) (s : Section) → slice_get n.sections k ≡ Some s → (x : Line) → IsLineOf w n x → is_section_line k x ≡ true → x ≡ SectionLine k s
-  section_is k s here (SectionLine j t) is e = let same : j ≡ k = eqb-true j k e in ap (λ i. SectionLine i t) same ∙ ap (SectionLine k) (same_Some t s (sym is ∙ ap (slice_get n.sections) same ∙ here))
-  section_is k s here (LocalLine j t) is e = absurd (true≢false (sym e))
-  section_is k s here (DefaultLine j t) is e = absurd (true≢false (sym e))
-  section_is k s here (OuterLine j t) is e = absurd (true≢false (sym e))
+  section_is k s here x is e = grind arith
 
   default_is : (k : ℕ) (s : Symbol) → slice_get n.symbols k ≡ Some s → (x : Line) → IsLineOf w n x → is_default_line k x ≡ true → x ≡ DefaultLine k s
-  default_is k s here (SectionLine j t) is e = absurd (true≢false (sym e))
-  default_is k s here (LocalLine j t) is e = absurd (true≢false (sym e))
-  default_is k s here (DefaultLine j t) is e = let same : j ≡ k = eqb-true j k e in ap (λ i. DefaultLine i t) same ∙ ap (DefaultLine k) (same_Some t s (sym is.0 ∙ ap (slice_get n.symbols) same ∙ here))
-  default_is k s here (OuterLine j t) is e = absurd (true≢false (sym e))
+  default_is k s here x is e = grind arith
 
   outer_is : (k : ℕ) (s : Symbol) → slice_get n.symbols k ≡ Some s → (x : Line) → IsLineOf w n x → is_outer_line k x ≡ true → x ≡ OuterLine k s
-  outer_is k s here (SectionLine j t) is e = absurd (true≢false (sym e))
-  outer_is k s here (LocalLine j t) is e = absurd (true≢false (sym e))
-  outer_is k s here (DefaultLine j t) is e = absurd (true≢false (sym e))
-  outer_is k s here (OuterLine j t) is e = let same : j ≡ k = eqb-true j k e in ap (λ i. OuterLine i t) same ∙ ap (OuterLine k) (same_Some t s (sym is.0 ∙ ap (slice_get n.symbols) same ∙ here))
+  outer_is k s here x is e = grind arith
 
   pub section_found : (k : ℕ) (s : Section) → slice_get n.sections k ≡ Some s → IsFound (numbered_lines w n) (is_section_line k) (SectionLine k s)
   section_found k s here = let m = section_there k s here in
@@ -252,10 +234,7 @@ module _ (w : CoffForm) (n : Object) where
   numbered_is_of i l here = line_is_of i l.part (numbered_line i l here)
 
   pub some_size : (x : Line) → 1 ≤ line_size x
-  some_size (SectionLine k s) = omega arith
-  some_size (LocalLine k s) = omega arith
-  some_size (DefaultLine k s) = omega arith
-  some_size (OuterLine k s) = elim (is_weak_with (λ f. true) s.binding) as (λ b. 1 ≤ cond b 2 1) [ true ↦ omega arith | false ↦ omega arith ]
+  some_size x = grind arith
 
   pub one_number : (i j : ℕ) (l m : Laid Line) → slice_get (numbered_lines w n) i ≡ Some l → slice_get (numbered_lines w n) j ≡ Some m → l.at ≡ m.at → (i ≡ j) × (l ≡ m)
   one_number i j l m here there same = laid_same behind line_size 0 (lines_of w n) i j l m (λ p z. omega arith) some_size here there same
@@ -323,8 +302,7 @@ module _ (w : CoffForm) (n : Object) where
   default_keyed j s x is = by (needs_default s) is
     where
       by : (b : Bool) → cond b (Some (DefaultLine j s)) None ≡ Some x → default_key x ≡ j
-      by true is = ap default_key (sym (same_Some (DefaultLine j s) x is))
-      by false is = absurd (none-some x is)
+      by b is = grind arith
 
   pub one_default : (k i j : ℕ) (s t : Symbol) → slice_get (lines_of w n) i ≡ Some (DefaultLine k s) → slice_get (lines_of w n) j ≡ Some (DefaultLine k t) → i ≡ j
   unfolding default_key

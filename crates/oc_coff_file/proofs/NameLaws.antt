@@ -132,8 +132,7 @@ module _ (w : CoffForm) (n : Object) (small : length (string_table w n) < 2 ^ 32
   section_named name none tabled near = by (is_tabled name) refl
     where
       plain : (name : List ℕ) → (is_long name || begins name (codes "/")) ≡ false → name_for (string_table w n) name ≡ Some name
-      plain [] e = refl
-      plain (c ∷ rest) e = rw (no_slash c rest (or_parts (is_long (c ∷ rest)) (begins (c ∷ rest) (codes "/")) e).1) refl
+      plain name e = grind arith
 
       by : (b : Bool) → is_tabled name ≡ b → section_name (string_table w n) (section_field w n name) ≡ Some name
       by true e =

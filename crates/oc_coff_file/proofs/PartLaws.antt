@@ -1,16 +1,16 @@
 -- The parts of a canonical file: their sizes, and that they stand at their places.
-use Rattle.oc_coff.specs.{WeakAux.{weak_aux_bytes}, declared.form.Shape.{Shape}, Forms.{format_of, header_size, shape_of, symbol_size}}
-use Rattle.oc_coff.specs.{declared.form.CoffForm.{CoffForm}, Names.{padded}, FileHeader.{file_header_bytes}, SymbolEntry.{symbol_bytes}}
-use Rattle.oc_coff.specs.{SectionAux.{section_aux_bytes}, SectionHeader.{section_header_bytes}, Relocation.{relocation_bytes}, Flags.{with_count}}
 use Rattle.oc_shows.specs.SymbolLines.{is_weak_with}
+use Rattle.oc_coff.specs.{declared.form.Shape.{Shape}, Forms.{format_of, header_size, shape_of, symbol_size}, declared.form.CoffForm.{CoffForm}, Names.{padded}}
+use Rattle.oc_coff.specs.{FileHeader.{file_header_bytes}, SymbolEntry.{symbol_bytes}, SectionAux.{section_aux_bytes}, SectionHeader.{section_header_bytes}}
+use Rattle.oc_coff.specs.{Relocation.{relocation_bytes}, Flags.{with_count}}
 use Rattle.std.proofs.Common.{◌≡◌, ℕ, zero, suc, ◌+◌, ◌-◌, ◌*◌, ◌≤◌, Bool, true, false, cond, List, [], ◌∷◌, ◌++◌, length, Some, refl, sym, ◌∙◌, ap, subst, arith, append-nil, length-append}
 use Rattle.std.specs.{Prelude.{slice_get, flat_map, decimal}, List.{enumerate_from}}
 use Rattle.std.proofs.lemmas.{List.{length-map}, List.FromFn.{length-enumerate_from}, Bool.{true≢false, eqb-true, eq-eqb}, Option.{none-some, same_Some}}
 use Rattle.oc_base.specs.Numbers.{bytes_of_number}
 use Rattle.oc_base.proofs.NumberLaws.{length-bytes_of_number, length-table}
-use Rattle.oc_linking.specs.{declared.terms.Binding.{Binding}, declared.terms.Binding.TheVariants.{Local, Global, Undefined, Common, Weak}}
+use Rattle.oc_linking.specs.declared.terms.Binding.{Binding}
 use Rattle.oc_linking.proofs.Overlay.{length-overlay}
-use Rattle.oc_neutral.specs.{declared.section.Section.{Section}, Objects.{Object}, Coff.Strings.{is_long, is_tabled, default_name}}
+use Rattle.oc_neutral.specs.{declared.section.Section.{Section}, Objects.{Object}, Coff.Strings.{is_long, is_tabled}}
 use Rattle.oc_coff_file.proofs.PaddedLemmas.{length-padded}
 use Rattle.oc_coff_file.proofs.StructureLaws.{length-file_header_bytes, length-section_header_bytes, length-symbol_bytes, length-section_aux_bytes, length-relocation_bytes, length-weak_aux_bytes, header_least}
 use Rattle.oc_shelf.specs.Writing.Parts.{Stands, Laid, laid, laid_end, behind, joined, place_where}
@@ -20,7 +20,7 @@ use Rattle.oc_shelf.proofs.WritingLaws.MemberLemmas.{member_first, member_enumer
 use Rattle.oc_coff_file.specs.Lines.{Line, SectionLine, LocalLine, DefaultLine, OuterLine, line_size, lines_of, numbered_lines, entry_count}
 use Rattle.oc_coff_file.specs.Bodies.{field_patches, raw_of, relocs_of}
 use Rattle.oc_coff_file.specs.Layout.{Part, FileHead, SectionHeads, Raw, Relocs, SymbolTable, StringTable, section_parts, parts_of, text_of, part_size, laid_parts, is_raw, is_relocs, is_symbol_table}
-use Rattle.oc_coff_file.specs.Canonical.{symbol_field, section_field, header_at, headers_of, line_entry, section_aux, weak_aux, line_aux, outer_aux, line_rows, entry_rows, file_header, string_table, part_bytes, coff_file}
+use Rattle.oc_coff_file.specs.Canonical.{symbol_field, section_field, header_at, headers_of, line_entry, section_aux, line_aux, outer_aux, line_rows, entry_rows, file_header, string_table, part_bytes, coff_file}
 use Rattle.oc_target.specs.CoffMeets.{offset_of}
 
 -- names have eight bytes
@@ -43,15 +43,10 @@ abbrev pub IsRow : Shape → List ℕ → Type 0
 IsRow z row = length row ≡ symbol_size z
 
 one_row : (z : Shape) (row : List ℕ) → IsRow z row → (k : ℕ) (x : List ℕ) → slice_get (row ∷ []) k ≡ Some x → IsRow z x
-one_row z row is zero x here = subst (IsRow z) (same_Some row x here) is
-one_row z row is (suc k) x here = absurd (none-some x here)
+one_row z row is k x here = grind arith
 
 outer_rows : (z : Shape) (lines : List (Laid Line)) (k : ℕ) (b : Binding) (j : ℕ) (x : List ℕ) → slice_get (outer_aux z lines k b) j ≡ Some x → IsRow z x
-outer_rows z lines k (Local v) j x here = absurd (none-some x here)
-outer_rows z lines k (Global v) j x here = absurd (none-some x here)
-outer_rows z lines k Undefined j x here = absurd (none-some x here)
-outer_rows z lines k (Common size align) j x here = absurd (none-some x here)
-outer_rows z lines k (Weak f) j x here = one_row z (weak_aux_bytes z (weak_aux lines k f)) (length-weak_aux_bytes z (weak_aux lines k f)) j x here
+outer_rows z lines k b j x here = grind (arith, none-some, length-weak_aux_bytes)
 
 aux_rows : (w : CoffForm) (n : Object) (line : Line) (j : ℕ) (x : List ℕ) → slice_get (line_aux w n line) j ≡ Some x → IsRow (shape_of w) x
 aux_rows w n (SectionLine k s) j x here = one_row (shape_of w) (section_aux_bytes (shape_of w) (section_aux w n k s)) (length-section_aux_bytes (shape_of w) (section_aux w n k s)) j x here
@@ -60,10 +55,7 @@ aux_rows w n (DefaultLine k s) j x here = absurd (none-some x here)
 aux_rows w n (OuterLine k s) j x here = outer_rows (shape_of w) (numbered_lines w n) k s.binding j x here
 
 pub field_is_eight : (w : CoffForm) (n : Object) (line : Line) → length (line_entry w n line).Name ≡ 8
-field_is_eight w n (SectionLine k s) = length-symbol_field w n s.name
-field_is_eight w n (LocalLine k s) = length-symbol_field w n s.name
-field_is_eight w n (DefaultLine k s) = length-symbol_field w n (default_name s.name)
-field_is_eight w n (OuterLine k s) = length-symbol_field w n s.name
+field_is_eight w n line = grind (arith, length-symbol_field)
 
 pub line_is_rows : (w : CoffForm) (n : Object) (line : Line) (j : ℕ) (x : List ℕ) → slice_get (line_rows w n line) j ≡ Some x → IsRow (shape_of w) x
 unfolding line_rows
@@ -72,18 +64,11 @@ line_is_rows w n line (suc j) x here = aux_rows w n line j x here
 
 -- a line has as many as its size
 length-outer_aux : (z : Shape) (lines : List (Laid Line)) (k : ℕ) (b : Binding) → 1 + length (outer_aux z lines k b) ≡ cond (is_weak_with (λ f. true) b) 2 1
-length-outer_aux z lines k (Local v) = refl
-length-outer_aux z lines k (Global v) = refl
-length-outer_aux z lines k Undefined = refl
-length-outer_aux z lines k (Common size align) = refl
-length-outer_aux z lines k (Weak f) = refl
+length-outer_aux z lines k b = grind arith
 
 pub length-line_rows : (w : CoffForm) (n : Object) (line : Line) → length (line_rows w n line) ≡ line_size line
 unfolding line_rows
-length-line_rows w n (SectionLine k s) = refl
-length-line_rows w n (LocalLine k s) = refl
-length-line_rows w n (DefaultLine k s) = refl
-length-line_rows w n (OuterLine k s) = omega (arith, length-outer_aux (shape_of w) (numbered_lines w n) k s.binding)
+length-line_rows w n line = grind arith
 
 pub length-entry_rows : (w : CoffForm) (n : Object) → length (entry_rows w n) ≡ entry_count w n
 length-entry_rows w n = omega (arith, length-laid_rows line_size (line_rows w n) 0 (lines_of w n) (λ k x h. length-line_rows w n x))
@@ -136,9 +121,7 @@ in_front n (suc zero) x here = subst (IsPartOf n) (same_Some SectionHeads x here
 in_front n (suc (suc k)) x here = each_flat_map (IsPartOf n) section_parts (enumerate_from 0 n.sections) (each_enumerated (λ y. (k : ℕ) (z : Part) → slice_get (section_parts y) k ≡ Some z → IsPartOf n z) 0 n.sections own) k x here
   where
     own : (j : ℕ) (s : Section) → slice_get n.sections j ≡ Some s → (k : ℕ) (z : Part) → slice_get (section_parts (0 + j, s)) k ≡ Some z → IsPartOf n z
-    own j s there zero z h = let e : j ≡ 0 + j = omega arith in subst (IsPartOf n) (same_Some (Raw (0 + j) s) z h) (subst (λ i. slice_get n.sections i ≡ Some s) e there)
-    own j s there (suc zero) z h = let e : j ≡ 0 + j = omega arith in subst (IsPartOf n) (same_Some (Relocs (0 + j) s) z h) (subst (λ i. slice_get n.sections i ≡ Some s) e there)
-    own j s there (suc (suc k)) z h = absurd (none-some z h)
+    own j s there k z h = grind arith
 
 -- which are not the symbol table
 in_front_no_table : (n : Object) (k : ℕ) (x : Part) → slice_get (front_parts n) k ≡ Some x → is_symbol_table x ≡ false
@@ -147,14 +130,10 @@ in_front_no_table n (suc zero) x here = ap is_symbol_table (sym (same_Some Secti
 in_front_no_table n (suc (suc k)) x here = each_flat_map (λ z. is_symbol_table z ≡ false) section_parts (enumerate_from 0 n.sections) (λ j y h. own y) k x here
   where
     own : (y : ℕ × Section) (k : ℕ) (z : Part) → slice_get (section_parts y) k ≡ Some z → is_symbol_table z ≡ false
-    own y zero z h = ap is_symbol_table (sym (same_Some (Raw y.0 y.1) z h))
-    own y (suc zero) z h = ap is_symbol_table (sym (same_Some (Relocs y.0 y.1) z h))
-    own y (suc (suc k)) z h = absurd (none-some z h)
+    own y k z h = grind arith
 
 in_back : (n : Object) (k : ℕ) (x : Part) → slice_get back_parts k ≡ Some x → IsPartOf n x
-in_back n zero x here = subst (IsPartOf n) (same_Some SymbolTable x here) tt
-in_back n (suc zero) x here = subst (IsPartOf n) (same_Some StringTable x here) tt
-in_back n (suc (suc k)) x here = absurd (none-some x here)
+in_back n k x here = grind arith
 
 pub part_is_there : (n : Object) (k : ℕ) (x : Part) → slice_get (parts_of n) k ≡ Some x → IsPartOf n x
 part_is_there n k x here = each_append (IsPartOf n) (front_parts n) back_parts (in_front n) (in_back n) k x (ap (λ xs. slice_get xs k) (sym (parts_split n)) ∙ here)
@@ -324,12 +303,7 @@ module _ (w : CoffForm) (n : Object) where
   stands_header = stands_where behind (part_size w n) (part_bytes w n) is_head (parts_of n) 0 FileHead rises sized refl refl only
     where
       only : (j : ℕ) (y : Part) → slice_get (parts_of n) j ≡ Some y → is_head y ≡ true → y ≡ FileHead
-      only j FileHead h e = refl
-      only j SectionHeads h e = absurd (true≢false (sym e))
-      only j (Raw k s) h e = absurd (true≢false (sym e))
-      only j (Relocs k s) h e = absurd (true≢false (sym e))
-      only j SymbolTable h e = absurd (true≢false (sym e))
-      only j StringTable h e = absurd (true≢false (sym e))
+      only j y h e = grind arith
 
   pub stands_headers : Stands (coff_file w n) (header_size (shape_of w)) (flat_map section_header_bytes (headers_of w n))
   unfolding coff_file parts_of part_bytes
@@ -339,9 +313,4 @@ module _ (w : CoffForm) (n : Object) where
       (stands_where behind (part_size w n) (part_bytes w n) is_heads (parts_of n) 1 SectionHeads rises sized refl refl only)
     where
       only : (j : ℕ) (y : Part) → slice_get (parts_of n) j ≡ Some y → is_heads y ≡ true → y ≡ SectionHeads
-      only j FileHead h e = absurd (true≢false (sym e))
-      only j SectionHeads h e = refl
-      only j (Raw k s) h e = absurd (true≢false (sym e))
-      only j (Relocs k s) h e = absurd (true≢false (sym e))
-      only j SymbolTable h e = absurd (true≢false (sym e))
-      only j StringTable h e = absurd (true≢false (sym e))
+      only j y h e = grind arith

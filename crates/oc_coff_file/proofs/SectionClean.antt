@@ -49,14 +49,10 @@ upto_less f g zero less = omega arith
 upto_less f g (suc i) less = let l = upto_less f g i less in let e = less i in omega (arith, l, e)
 
 none_of_three : (a b c : Bool) → (a ≡ true) ⊎ ((b ≡ true) ⊎ (c ≡ false)) → ((not a && not b) && c) ≡ false
-none_of_three true b c one = refl
-none_of_three false true c one = refl
-none_of_three false false true one = elim one [ inl e ↦ absurd (true≢false (sym e)) | inr o ↦ elim o [ inl e ↦ absurd (true≢false (sym e)) | inr e ↦ absurd (true≢false e) ] ]
-none_of_three false false false one = refl
+none_of_three a b c one = grind arith
 
 pub and_false : (a : Bool) → (a && false) ≡ false
-and_false true = refl
-and_false false = refl
+and_false a = grind arith
 
 module _ (w : CoffForm) (n : Object) (is : IsForCoff w n) (numbers : HasNumbers w n) (entries : entries_in (made_tables w n) ≡ map (made_entry w n) (numbered_lines w n)) where
   abbrev file : List ℕ
@@ -84,8 +80,7 @@ module _ (w : CoffForm) (n : Object) (is : IsForCoff w n) (numbers : HasNumbers 
         unsized none some = by (is_zero s.kind) (coded_section w n is k s here).bytes
           where
             by : (b : Bool) → length s.bytes ≡ cond b 0 s.size → b ≡ true
-            by true e = refl
-            by false e = absurd (true≢false (sym (ap (λ m. eqb m 0) (sym e ∙ ap length none)) ∙ some))
+            by b e = grind arith
 
         pick : s.bytes ≡ [] → (b : Bool) → eqb s.size 0 ≡ b
             → (has (section_flags s (relocs k)) IMAGE_SCN_CNT_UNINITIALIZED_DATA ≡ true) ⊎ ((eqb s.size 0 ≡ true) ⊎ (eqb header.PointerToRawData 0 ≡ false))

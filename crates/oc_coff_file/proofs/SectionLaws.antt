@@ -54,12 +54,10 @@ pub record FlagsSay (s : Section) (relocs : List Relocation) : Type 0 where
   pub small : section_flags s relocs < 2 ^ 32
 
 bit_is : (b : Bool) → eqb (cond b 1 0) 1 ≡ b
-bit_is true = refl
-bit_is false = refl
+bit_is b = grind arith
 
 bit_low : (b : Bool) → cond b 1 0 ≤ 1
-bit_low true = omega arith
-bit_low false = omega arith
+bit_low b = grind arith
 
 pub flags_say : (w : CoffForm) (n : Object) (s : Section) (relocs : List Relocation) → IsCodedSection w n s → FlagsSay s relocs
 flags_say w n s relocs is =
@@ -115,8 +113,7 @@ made_carried w n x = record {
 }
 
 by_either : (b : Bool) → cond {A = List ℕ} b [] [] ≡ []
-by_either true = refl
-by_either false = refl
+by_either b = grind arith
 
 -- bytes, or zeros, by two tests
 contents_by : (stored zeros : Bool) (raw : List ℕ) (size : ℕ) → (zeros ≡ true → stored ≡ false) → (zeros ≡ false → 0 < length raw → stored ≡ true) → (zeros ≡ false → length raw ≡ 0 → size ≡ 0)
@@ -158,8 +155,7 @@ module _ (w : CoffForm) (n : Object) (small : length (string_table w n) < 2 ^ 32
         (λ z none. sym (ap (λ b. cond b 0 s.size) (sym is.zeros ∙ z)) ∙ sym is.bytes ∙ sym (length-raw w n k s) ∙ none)
       where
         never : (b : Bool) → (b && false) ≡ false
-        never true = refl
-        never false = refl
+        never b = grind arith
 
     aligned : align_of header.Characteristics ≡ s.align
     unfolding header_at

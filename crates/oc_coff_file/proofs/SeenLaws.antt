@@ -1,5 +1,5 @@
 -- The symbols that are seen of an object, by the lines of its file.
-use Rattle.std.proofs.Common.{◌≡◌, ℕ, false, List, Option, Some, None, refl, sym, ◌∙◌, ap}
+use Rattle.std.proofs.Common.{◌≡◌, ℕ, false, List, Option, Some, None, refl, sym, ◌∙◌, ap, arith}
 use Rattle.std.specs.{Prelude.{slice_get, filter_map}, Option.{option_map, option_and_then}}
 use Rattle.oc_base.specs.Formats.{word_for}
 use Rattle.oc_linking.specs.Parts.{is_local}
@@ -51,10 +51,7 @@ module _ (w : CoffForm) (n : Object) (format : n.format ≡ format_of w) where
   symbols_seen = by_lines.symbols_seen coff_manner n line_size counted_line sized (lines_of w n) (lines_counted w n format) line_symbol (λ i x here. by x (line_is_of w n i x here))
     where
       by : (x : Line) → IsLineOf w n x → line_symbol x ≡ option_and_then (slice_get n.symbols) (counted_line x).shows
-      by (SectionLine k s) o = refl
-      by (LocalLine k s) o = sym o.0
-      by (DefaultLine k s) o = refl
-      by (OuterLine k s) o = sym o.0
+      by x o = grind arith
 
   pub are_shown : IsShown n (shown n)
   are_shown = table_shows n (coff_lines n) (coff_table n).table

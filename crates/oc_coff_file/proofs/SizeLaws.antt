@@ -1,7 +1,7 @@
 -- The sizes of a canonical file are numbers of 32 bits.
 use Rattle.oc_coff_file.proofs.{StructureLaws.{header_most, symbols_most}, CodedLaws.{IsForCoff, fewest}, LineLaws.{counted_line, lines_counted}}
 use Rattle.oc_coff_file.proofs.PartLaws.{length-coff_file, table_place, front_parts}
-use Rattle.std.proofs.Common.{◌≡◌, ℕ, suc, ◌+◌, ◌*◌, ◌^◌, ◌<◌, ◌≤◌, Bool, true, false, cond, List, [], ◌∷◌, length, map, get_or, refl, sym, ◌∙◌, ap, arith}
+use Rattle.std.proofs.Common.{◌≡◌, ℕ, suc, ◌+◌, ◌*◌, ◌^◌, ◌<◌, ◌≤◌, Bool, cond, List, [], ◌∷◌, length, map, get_or, refl, sym, ◌∙◌, ap, arith}
 use Rattle.std.specs.{Prelude.{flat_map}, List.{sum_by, enumerate_from, AllByRecursion}}
 use Rattle.std.proofs.lemmas.{List.Sums.{sum_by-cons}, List.{length-map}}
 use Rattle.oc_coff.specs.{declared.form.CoffForm.{CoffForm}, declared.relocation.Relocation.{Relocation}, Forms.{format_of, shape_of}}
@@ -13,9 +13,8 @@ use Rattle.oc_target.specs.CoffMeets.{strings_of}
 use Rattle.oc_shows.specs.SymbolLines.{coff_lines}
 use Rattle.oc_shows.proofs.SeenFamilies.{coff_table}
 use Rattle.oc_shelf.specs.Writing.Parts.{laid_end, behind}
-use Rattle.oc_coff_file.specs.Lines.{Line, SectionLine, LocalLine, DefaultLine, OuterLine, lines_of, line_size, numbered_lines, entry_count}
-use Rattle.oc_coff_file.specs.{Bodies.{relocs_of}, Layout.{Part, FileHead, SectionHeads, Raw, Relocs, section_parts, text_of, reloc_entries, part_size}}
-use Rattle.oc_coff_file.specs.Canonical.{coff_file}
+use Rattle.oc_coff_file.specs.{Lines.{Line, lines_of, line_size, numbered_lines, entry_count}, Bodies.{relocs_of}}
+use Rattle.oc_coff_file.specs.{Layout.{Part, FileHead, SectionHeads, Raw, Relocs, section_parts, text_of, reloc_entries, part_size}, Canonical.{coff_file}}
 use Rattle.oc_chains.specs.declared.field.Field as chains
 use Rattle.oc_shows.specs.SymbolLines as table
 use Rattle.oc_shows.proofs.SeenTables as counts
@@ -40,10 +39,7 @@ module _ (w : CoffForm) (n : Object) (is : IsForCoff w n) where
       omega (arith, a, b, c, one x)
     where
       one : (x : Line) → (counted_line x).entries ≡ line_size x
-      one (SectionLine k s) = refl
-      one (LocalLine k s) = refl
-      one (DefaultLine k s) = refl
-      one (OuterLine k s) = refl
+      one x = grind arith
 
   pub few_entries : entry_count w n ≤ 2 * length n.sections + 3 * length n.symbols
   few_entries =
@@ -62,8 +58,7 @@ module _ (w : CoffForm) (n : Object) (is : IsForCoff w n) where
       by (relocs_of w (numbered_lines w n) n k) (is_crowded (relocs_of w (numbered_lines w n) n k)) same
     where
       by : (rs : List Relocation) (b : Bool) → length rs ≡ length (list_of n.relocs k) → length (cond b (count_entry rs ∷ rs) rs) ≤ length (list_of n.relocs k) + 1
-      by rs true e = omega (arith, e)
-      by rs false e = omega (arith, e)
+      by rs b e = grind arith
 
   abbrev section_size : ℕ × Section → ℕ
   section_size x = length x.1.bytes + 10 * reloc_entries w n x.0

@@ -256,16 +256,13 @@ relocation_at-shift front ys at j e = rw (
 
 -- the least and the greatest sizes of a shape
 pub header_least : (z : Shape) → 20 ≤ header_size z
-header_least Usual = omega arith
-header_least Big = omega arith
+header_least z = grind arith
 
 pub header_most : (z : Shape) → header_size z ≤ 56
-header_most Usual = omega arith
-header_most Big = omega arith
+header_most z = grind arith
 
 pub symbols_most : (z : Shape) (m : ℕ) → symbol_size z * m ≤ 20 * m
-symbols_most Usual m = omega arith
-symbols_most Big m = omega arith
+symbols_most z m = grind arith
 
 -- a section number of 32 bits that the shape has room for
 abbrev pub IsNumber : Shape → ℕ → Type 0
@@ -278,8 +275,7 @@ low_number Usual n low =
 low_number Big n low = (omega (arith, low), tt)
 
 pub absolute_number : (z : Shape) → IsNumber z 0xFFFFFFFF
-absolute_number Usual = (omega arith, refl)
-absolute_number Big = (omega arith, tt)
+absolute_number z = grind arith
 
 -- the number of another section
 abbrev pub IsOther : Shape → ℕ → Type 0
@@ -287,8 +283,7 @@ IsOther Usual n = n < 2 ^ 16
 IsOther Big n = n < 2 ^ 32
 
 pub low_other : (z : Shape) (n : ℕ) → n < 2 ^ 16 → IsOther z n
-low_other Usual n low = low
-low_other Big n low = omega (arith, low)
+low_other z n low = grind arith
 
 pub fit_symbol : (z : Shape) (s : SymbolEntry) → s.Value < 2 ^ 32 → IsNumber z s.SectionNumber → s.Type < 2 ^ 16 → s.StorageClass < 2 ^ 8 → s.NumberOfAuxSymbols < 2 ^ 8 → FitSymbol z s
 fit_symbol Usual s value number type class auxiliary = ((omega (arith, value), (omega arith, (omega (arith, type), (omega (arith, class), (omega (arith, auxiliary), tt))))), number.1)

@@ -78,8 +78,7 @@ module _ (w : CoffForm) (n : Object) (is : IsForCoff w n) (numbers : HasNumbers 
 
   -- a value has a section number
   value_some : (v : Value) → eqb (numbers_of v).1 0 ≡ false
-  value_some (value.Place k offset) = ne_eqb (k + 1) 0 (omega arith)
-  value_some (value.Absolute x) = refl
+  value_some v = grind arith
 
   -- an entry with its number and its auxiliary entry
   abbrev as_entry : ℕ → SymbolEntry → Option Slot → Entry
@@ -122,13 +121,7 @@ module _ (w : CoffForm) (n : Object) (is : IsForCoff w n) (numbers : HasNumbers 
       low_section k s there = let low : k < length n.sections = slice_get_within n.sections k s there in let few = fewest w n is in ne_eqb (k + 1) 0xFFFFFFFE (omega (arith, low, few))
 
       not_debug : (b : Binding) → IsCodedBinding n b → eqb (numbers_by b).1 0xFFFFFFFE ≡ false
-      not_debug (Local (value.Place k offset)) c = low_section k c.0 c.1
-      not_debug (Local (value.Absolute x)) c = refl
-      not_debug (Global (value.Place k offset)) c = low_section k c.0 c.1
-      not_debug (Global (value.Absolute x)) c = refl
-      not_debug Undefined c = refl
-      not_debug (Common size align) c = refl
-      not_debug (Weak f) c = refl
+      not_debug b c = grind (arith, low_section)
 
   weak_clean : (number k : ℕ) (symbol : SymbolEntry) (s : Symbol) (f : Fallback) → slice_get n.symbols k ≡ Some s → s.binding ≡ Weak f → IsCodedFallback n f
       → Unbroken (tag_conditions (made_tables w n) (as_entry number symbol (outer_slot (shape_of w) lines k (Weak f))) (tagged_by (entries_in (made_tables w n)) (as_entry number symbol (outer_slot (shape_of w) lines k (Weak f)))))
@@ -200,17 +193,11 @@ module _ (w : CoffForm) (n : Object) (is : IsForCoff w n) (numbers : HasNumbers 
       long_tabled name e = ap (λ b. b || begins name (codes "/")) e
 
       by : (x : Line) → IsCodedLine w n x → is_none (symbol_name (string_table w n) (line_entry w n x).Name) ≡ false
-      by (SectionLine k s) c = ap is_none (symbol_named w n numbers.small s.name c.name (λ e. c.tabled (long_tabled s.name e)))
-      by (LocalLine k s) c = ap is_none (symbol_named w n numbers.small s.name c.plain c.given)
-      by (DefaultLine k s) c = ap is_none (symbol_named w n numbers.small (default_name s.name) (long_default s.name c.0.plain) (λ e. c.1))
-      by (OuterLine k s) c = ap is_none (symbol_named w n numbers.small s.name c.plain c.given)
+      by x c = grind (arith, symbol_named, long_tabled, long_default)
 
   -- which entries are external
   external_is : (x : Line) → is_external (line_entry w n x) ≡ true → (k : ℕ) × (s : Symbol) × (x ≡ OuterLine k s)
-  external_is (SectionLine k s) e = absurd (true≢false (sym e))
-  external_is (LocalLine k s) e = absurd (true≢false (sym e))
-  external_is (DefaultLine k s) e = absurd (true≢false (sym e))
-  external_is (OuterLine k s) e = (k, s, refl)
+  external_is x e = grind arith
 
   -- the name of the symbol of a line
   outer_name : (i : ℕ) (l : Laid Line) (k : ℕ) (s : Symbol) → slice_get lines i ≡ Some l → l.part ≡ OuterLine k s
@@ -248,8 +235,7 @@ module _ (w : CoffForm) (n : Object) (is : IsForCoff w n) (numbers : HasNumbers 
       ]
 
   some_name : (name : List ℕ) → 1 ≤ length name → is_nothing name ≡ false
-  some_name [] low = absurd (omega (arith, low))
-  some_name (c ∷ name) low = refl
+  some_name name low = grind arith
 
   names_clean : (i : ℕ) (l : Laid Line) → slice_get lines i ≡ Some l → is_uncarried (S w n is) (line_entry w n l.part) ≡ false
       → Unbroken (name_conditions (made_tables w n) (take i (E w n is)) (name_of (string_table w n) (made_entry w n l)) (made_entry w n l))

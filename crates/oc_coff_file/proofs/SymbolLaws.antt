@@ -183,9 +183,7 @@ module _ (w : CoffForm) (n : Object) (is : IsForCoff w n) where
         ∙ ap (λ o. option_map_or (eqb l.at) o false) (tag_read k s f.0 o.0 f.1) ∙ eq-eqb l.at (tag_of lines k f.0) (sym (tag_is f.0 f.2 ∙ number))))
       where
         tag_is : (f : Fallback) → has_default f ≡ true → tag_of lines k f ≡ default_number lines k
-        tag_is (fallback.Place j offset) e = refl
-        tag_is fallback.Zero e = refl
-        tag_is (fallback.Name j) e = absurd (true≢false (sym e))
+        tag_is f e = grind arith
 
     -- the number of a seen symbol
     pub seen_number : (j : ℕ) (t : Symbol) → slice_get n.symbols j ≡ Some t → is_local t.binding ≡ false → number_of (syms n) (new_position (shown n) j) ≡ outer_number lines j
@@ -205,9 +203,7 @@ module _ (w : CoffForm) (n : Object) (is : IsForCoff w n) where
       as_entry number symbol aux = record { number = number; symbol = symbol; aux = aux }
 
       no_section_symbol : (a b d : Bool) → (((a && b) && false) && d) ≡ false
-      no_section_symbol true true d = refl
-      no_section_symbol true false d = refl
-      no_section_symbol false b d = refl
+      no_section_symbol a b d = grind arith
 
       -- a binding as it is seen
       abbrev seen_as : Binding → Binding
@@ -228,8 +224,7 @@ module _ (w : CoffForm) (n : Object) (is : IsForCoff w n) where
           rw (some_section v c) (ap (option_map Global) (value_made field v type 2 0 c))
         where
           some_section : (v : Value) → IsCodedValue n v → eqb (numbers_of v).1 0 ≡ false
-          some_section (value.Place j offset) c = ne_eqb (j + 1) 0 (omega arith)
-          some_section (value.Absolute x) c = refl
+          some_section v c = grind arith
       outer_bound number k type field name s Undefined here own c o = refl
       outer_bound number k type field name s (Common size align) here own c o =
           rw (ne_eqb size 0 (omega (arith, c.0))) (ap (λ a. Some (Common size a)) c.2)
@@ -256,13 +251,10 @@ module _ (w : CoffForm) (n : Object) (is : IsForCoff w n) where
 
       -- what the rules read of a line is what is seen of it
       mark_read : (m : Mark) → cond (eqb (type_by m) 0x20) Function NoType ≡ coff_mark m
-      mark_read NoType = refl
-      mark_read ObjectMark = refl
-      mark_read Function = refl
+      mark_read m = grind arith
 
       some_name : (name : List ℕ) → 1 ≤ length name → is_nothing name ≡ false
-      some_name [] l = absurd (omega (arith, l))
-      some_name (c ∷ name) l = refl
+      some_name name l = grind arith
 
       bound_local : (b : Binding) → is_local b ≡ true → (number type : ℕ) (field name : List ℕ) → is_tagged E number ≡ false → is_nothing name ≡ false → IsCodedBinding n b
           → binding_of S E name (as_entry number (entry field (numbers_by b) type 3 0) None) ≡ Some (seen_as b)

@@ -6,8 +6,7 @@ use Rattle.std.specs.{Prelude.{slice_get}, Option.{option_map, option_and_then}}
 use Rattle.std.proofs.lemmas.{Bool.{le-leb}, Option.{slice_get_within}}
 use Rattle.oc_linking.specs.declared.terms.Value.TheVariants as value
 use Rattle.oc_linking.specs.declared.terms.Fallback.TheVariants as fallback
-use Rattle.oc_linking.specs.{declared.terms.Binding.{Binding}, declared.terms.Binding.TheVariants.{Local, Global, Undefined, Common, Weak}, Parts.{is_local}}
-use Rattle.oc_linking.specs.{Rules.{Named, Symbolic}, Targets.{Target}}
+use Rattle.oc_linking.specs.{declared.terms.Binding.{Binding}, Parts.{is_local}, Rules.{Named, Symbolic}, Targets.{Target}}
 use Rattle.oc_neutral.specs.{declared.section.Section.{Section}, declared.symbol.Symbol.{Symbol}, Objects.{Object}, Faces.{shown_binding, shown_symbol}}
 use Rattle.oc_neutral.specs.TargetRelocations.{is_homeless}
 use Rattle.oc_shows.specs.{Manners.{coff_manner}, RowFields.{place_target}, Seen.{seen_binding, seen_symbol}}
@@ -56,13 +55,7 @@ module _ (w : CoffForm) (n : Object) (is : IsForCoff w n) (tags_fit : AreTagged 
   seen_as b = shown_binding (syms n) (seen_binding coff_manner n (shown n) b)
 
   homeless_seen : (b : Binding) → is_homeless (seen_as b) ≡ is_homeless b
-  homeless_seen (Local v) = refl
-  homeless_seen (Global v) = refl
-  homeless_seen Undefined = refl
-  homeless_seen (Common size align) = refl
-  homeless_seen (Weak (fallback.Place k offset)) = refl
-  homeless_seen (Weak fallback.Zero) = refl
-  homeless_seen (Weak (fallback.Name k)) = refl
+  homeless_seen b = grind arith
 
   -- a symbol that is not Local
   pub symbol_aim : (j : ℕ) (t : Symbol) → slice_get n.symbols j ≡ Some t → is_local t.binding ≡ false

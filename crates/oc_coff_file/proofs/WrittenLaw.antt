@@ -1,8 +1,8 @@
 -- The canonical file of an object that is ready for COFF is well formed and shows the object that is seen.
-use Rattle.oc_coff.specs.{Forms.{shape_of, word_of}, declared.form.CoffForm.{CoffForm}, declared.form.CoffForm.TheVariants.{Usual32, Usual64, Big32, Big64}}
-use Rattle.oc_coff.specs.{HeaderFaults.{header_conditions, header_stage}, SectionFaults.{section_stage}, SymbolFaults.{symbol_stage}}
-use Rattle.oc_coff.specs.{RelocationFaults.{relocation_stage}, Rules.{stages_of, fault_of, coff_dialect, fault_by}}
-use Rattle.std.proofs.Common.{◌≡◌, ℕ, None, refl, sym, ◌∙◌, ap, subst, List, [], ◌∷◌}
+use Rattle.oc_coff.specs.{Forms.{shape_of, word_of}, declared.form.CoffForm.{CoffForm}, HeaderFaults.{header_conditions, header_stage}}
+use Rattle.oc_coff.specs.{SectionFaults.{section_stage}, SymbolFaults.{symbol_stage}, RelocationFaults.{relocation_stage}}
+use Rattle.oc_coff.specs.Rules.{stages_of, fault_of, coff_dialect, fault_by}
+use Rattle.std.proofs.Common.{◌≡◌, ℕ, None, sym, ◌∙◌, ap, subst, List, [], ◌∷◌, arith}
 use Rattle.oc_linking.specs.{Keeping.{all}, FirstFault.{first_fault}}
 use Rattle.oc_neutral.specs.{Objects.{Object}, Dialects.{IsDialect}}
 use Rattle.oc_shelf.proofs.ReadingLaws.StageLemmas.{Unbroken, no_first_fault}
@@ -13,10 +13,7 @@ use Rattle.oc_coff_file.proofs.{SymbolClean.{symbols_clean}, RelocationClean.{re
 
 -- COFF has the words and the alignments of its format
 pub coff_is_dialect : (w : CoffForm) → IsDialect (coff_dialect w)
-coff_is_dialect Usual32 = record { word = refl; output_align = λ align. refl; common_align = λ size align. refl }
-coff_is_dialect Usual64 = record { word = refl; output_align = λ align. refl; common_align = λ size align. refl }
-coff_is_dialect Big32 = record { word = refl; output_align = λ align. refl; common_align = λ size align. refl }
-coff_is_dialect Big64 = record { word = refl; output_align = λ align. refl; common_align = λ size align. refl }
+coff_is_dialect w = grind arith
 
 module _ (w : CoffForm) (n : Object) (is : IsForCoff w n) (numbers : HasNumbers w n) where
   abbrev file : List ℕ

@@ -3,13 +3,13 @@ use Rattle.std.specs.Prelude.{ℕ, ◌+◌, if◌then◌else◌, List, [], ◌�
 use Rattle.std.specs.{List.{find, list_any, enumerate_from}, Option.{option_and_then, option_map_or}}
 use Rattle.oc_coff.specs.declared.form.CoffForm.{CoffForm}
 use Rattle.oc_coff.specs.declared.constants.TheConstants.{IMAGE_SYM_CLASS_STATIC, IMAGE_COMDAT_SELECT_ANY, IMAGE_COMDAT_SELECT_ASSOCIATIVE, IMAGE_WEAK_EXTERN_SEARCH_ALIAS, OVERFLOWED_COUNT}
+use Rattle.oc_coff.specs.Flags.{machine_of, pointer_to, section_flags, version_of, with_count}
+use Rattle.oc_coff.specs.Values.{numbers_by, default_numbers, type_by, class_by, aux_by}
 use Rattle.oc_coff.specs.{declared.file_header.FileHeader.{FileHeader}, declared.section_header.SectionHeader.{SectionHeader}}
 use Rattle.oc_coff.specs.{declared.symbol.SymbolEntry.{SymbolEntry}, declared.section_aux.SectionAux.{SectionAux}, declared.weak_aux.WeakAux.{WeakAux}}
 use Rattle.oc_coff.specs.{declared.relocation.Relocation.{Relocation}, FileHeader.{file_header_bytes}, SectionHeader.{section_header_bytes}}
 use Rattle.oc_coff.specs.{SymbolEntry.{symbol_bytes}, SectionAux.{section_aux_bytes}, WeakAux.{weak_aux_bytes}, Relocation.{relocation_bytes}, Names.{padded}}
 use Rattle.oc_coff.specs.{declared.form.Shape.{Shape}, Forms.{format_of, shape_of, word_of}}
-use Rattle.oc_coff.specs.Flags.{machine_of, pointer_to, section_flags, version_of, with_count}
-use Rattle.oc_coff.specs.Values.{numbers_by, default_numbers, type_by, class_by, aux_by}
 use Rattle.oc_base.specs.Numbers.{bytes_of_number}
 use Rattle.oc_linking.specs.{declared.terms.Value.{Value}, declared.terms.Fallback.{Fallback}, declared.terms.Binding.{Binding}}
 use Rattle.oc_linking.specs.declared.terms.Binding.TheVariants.{Local, Global, Undefined, Common, Weak}

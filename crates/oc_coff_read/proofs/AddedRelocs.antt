@@ -6,10 +6,9 @@ use Rattle.std.proofs.Common.{◌≡◌, ℕ, ◌+◌, ◌≤◌, Bool, true, fa
 use Rattle.std.specs.{Prelude.{◌&&◌, not, nat_eq, slice_get}, Option.{option_map, option_and_then}}
 use Rattle.std.proofs.lemmas.{Bool.{true≢false}, Option.{none-some, same_Some, slice_get-map, slice_get_within}}
 use Rattle.oc_base.specs.declared.format.Word.{Word}
-use Rattle.oc_linking.specs.{declared.terms.Binding.{Binding}, declared.terms.Binding.TheVariants.{Local, Global, Undefined, Common, Weak}}
-use Rattle.oc_linking.specs.{declared.terms.Keep.{Keep}, declared.terms.Kind.{Kind}}
-use Rattle.oc_linking.specs.{declared.terms.Kind.TheVariants.{Code, ReadOnly, Data, Zero, Init, Fini, Debug, Exception, Note}, declared.terms.Less.{Less}}
-use Rattle.oc_linking.specs.{FirstFault.{stage_fault}, Fits.{bytes_of}}
+use Rattle.oc_linking.specs.{declared.terms.Binding.{Binding}, declared.terms.Binding.TheVariants.{Local}, declared.terms.Keep.{Keep}}
+use Rattle.oc_linking.specs.{declared.terms.Kind.{Kind}, declared.terms.Kind.TheVariants.{Zero}, declared.terms.Less.{Less}, FirstFault.{stage_fault}}
+use Rattle.oc_linking.specs.Fits.{bytes_of}
 use Rattle.oc_linking.specs.declared.terms.Less.TheVariants as less
 use Rattle.oc_linking.specs.declared.terms.Value.TheVariants as value
 use Rattle.oc_linking.specs.Parts as parts
@@ -34,16 +33,7 @@ unfolding carried_at carried_of
 stored_kind t i c is = by (slice_get t.sections i) is
   where
     zero_by : (k : Kind) → (b : Bool) → (b && not (same_kind Zero k)) ≡ true → is_zero k ≡ false
-    zero_by Zero true e = absurd (true≢false (sym e))
-    zero_by Zero false e = absurd (true≢false (sym e))
-    zero_by Code b e = refl
-    zero_by ReadOnly b e = refl
-    zero_by Data b e = refl
-    zero_by Init b e = refl
-    zero_by Fini b e = refl
-    zero_by Debug b e = refl
-    zero_by Exception b e = refl
-    zero_by Note b e = refl
+    zero_by k b e = grind arith
 
     by : (o : Option SectionTable) → option_and_then (λ (x : SectionTable). carried_of t (i + 1, x)) o ≡ Some c → c.stored ≡ true → is_zero c.section.kind ≡ false
     by None h = absurd (none-some c h)
@@ -65,12 +55,7 @@ stored_at t s c there = by (collected-from (carried_at t) (length t.sections) s 
 
 -- a Local's place, in a binding as it is stored
 stored_place : (all : List parts.Symbol) (b : Binding) (place : Place) → local_place (placed_binding all b) ≡ Some place → placed_binding all b ≡ Local (value.Place place.0 place.1)
-stored_place all (Local (value.Place k offset)) place e = ap (λ (q : Place). Local (value.Place q.0 q.1)) (same_Some (k, offset) place e)
-stored_place all (Local (value.Absolute n)) place e = absurd (none-some place e)
-stored_place all (Global v) place e = absurd (none-some place e)
-stored_place all Undefined place e = absurd (none-some place e)
-stored_place all (Common size align) place e = absurd (none-some place e)
-stored_place all (Weak g) place e = absurd (none-some place e)
+stored_place all b place e = grind arith
 
 module _ (w : Word) (file : CoffFile) (head : IsHeaded file) (bytes : AreBytes file.bytes) (keep : Keep) (symbols : stage_fault (symbol_stage (tables_in file)) ≡ None) (clean : stage_fault (relocation_stage w (tables_in file) keep) ≡ None) where
   abbrev t : Tables
@@ -112,12 +97,7 @@ module _ (w : Word) (file : CoffFile) (head : IsHeaded file) (bytes : AreBytes f
         }
 
     less_there : (l : Less) → ((k : ℕ) → l ≡ less.Section k → ⊥) → IsLessThere base.object l
-    less_there less.Zero none = tt
-    less_there less.Place none = tt
-    less_there less.GotBase none = tt
-    less_there less.ImageBase none = tt
-    less_there less.Home none = tt
-    less_there (less.Section k) none = absurd (none k refl)
+    less_there l none = grind arith
 
     -- a relocation can be added before any other
     can_base : (s at : ℕ) (r : Reloc) (m : Standing s at r) → CanAdd base.object s at r

@@ -9,7 +9,7 @@ use Rattle.oc_coff.specs.{SymbolFaults.{can_be_tagged, symbol_stage}, Head.{IsHe
 use Rattle.std.proofs.Common.{◌≡◌, ℕ, ◌+◌, ◌<◌, Bool, true, false, cond, List, [], ◌∷◌, length, map, Option, None, Some, Ok, refl, sym, ◌∙◌, ap, subst, arith}
 use Rattle.std.specs.Prelude.{not, ◌&&◌, ◌||◌, nat_eq, nat_le, is_some, slice_get, slice_index_or}
 use Rattle.std.specs.Option.{option_and_then, option_map, option_map_or, unwrap_or}
-use Rattle.std.proofs.lemmas.{Bool.{eqb-true, true≢false}, List.{map-append}, Option.{none-some, same_Some}}
+use Rattle.std.proofs.lemmas.{Bool.{eqb-true, true≢false}, List.{map-append}, Option.{none-some}}
 use Rattle.oc_base.specs.declared.format.Word.{Word}
 use Rattle.oc_linking.specs.{declared.terms.Binding.{Binding}, declared.terms.Binding.TheVariants.{Local, Global, Undefined, Common, Weak}}
 use Rattle.oc_linking.specs.{declared.terms.Value.{Value}, FirstFault.{stage_fault}, Parts.{is_local}}
@@ -48,12 +48,10 @@ module _ (t : Tables) (clean : stage_fault (symbol_stage t) ≡ None) where
       by (is_class IMAGE_SYM_CLASS_EXTERNAL e.symbol) (is_class IMAGE_SYM_CLASS_WEAK_EXTERNAL e.symbol) (is_class IMAGE_SYM_CLASS_STATIC e.symbol || is_class IMAGE_SYM_CLASS_LABEL e.symbol) (nat_eq e.symbol.SectionNumber IMAGE_SYM_DEBUG) refl refl refl is
     where
       local : (o : Option Value) → option_map Local o ≡ Some b → ⊥
-      local None g = none-some b g
-      local (Some v) g = true≢false (ap is_local (same_Some (Local v) b g) ∙ other)
+      local o g = grind arith
 
       own : (a : Bool) (o : Option Value) → cond a None (option_map Local o) ≡ Some b → ⊥
-      own true o g = none-some b g
-      own false o g = local o g
+      own a o g = grind arith
 
       undefined : is_class IMAGE_SYM_CLASS_WEAK_EXTERNAL e.symbol ≡ true → nat_eq e.symbol.SectionNumber IMAGE_SYM_DEBUG ≡ true → ⊥
       undefined weak debug =
@@ -79,10 +77,7 @@ tagged_other d sections external can =
     last (is_class IMAGE_SYM_CLASS_STATIC d.symbol) _ (is_class IMAGE_SYM_CLASS_EXTERNAL d.symbol) (nat_eq d.symbol.SectionNumber IMAGE_SYM_DEBUG) static can
   where
     last : (a b c e : Bool) → a ≡ false → ((a && b) || (c && not e)) ≡ true → e ≡ false
-    last true b c e g h = absurd (true≢false g)
-    last false b true true g h = absurd (true≢false (sym h))
-    last false b true false g h = refl
-    last false b false e g h = absurd (true≢false (sym h))
+    last a b c e g h = grind arith
 
 module _ (file : CoffFile) (head : IsHeaded file) (clean : stage_fault (symbol_stage (tables_in file)) ≡ None) where
   abbrev t : Tables

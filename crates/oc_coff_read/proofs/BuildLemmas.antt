@@ -1,15 +1,14 @@
 -- The sections of a file without faults, added one after the other.
 use Rattle.oc_coff.specs.{Files.{CoffFile}, declared.section_header.SectionHeader.{SectionHeader}, Tables.{SectionTable, Tables, section_table}}
 use Rattle.oc_coff.specs.{Names.{section_name}, Comdat.{definition_in, is_comdat}, Forms.{format_by}}
-use Rattle.oc_coff.specs.{Sections.{Carried, align_bits, carried_of, is_stored, kind_in, section_of}, HeaderFaults.{passes_end}}
+use Rattle.oc_coff.specs.{Sections.{align_bits, carried_of, is_stored, kind_in, section_of}, HeaderFaults.{passes_end}}
 use Rattle.oc_coff.specs.SectionFaults.{Numbered, carried_bytes, carried_size, copy_conditions, header_place, limit_conditions, raw_conditions, section_conditions, section_fault, section_stage, table_conditions, worth_by}
 use Rattle.std.proofs.Common.{◌≡◌, ℕ, zero, suc, ◌+◌, ◌<◌, ◌≤◌, Bool, true, false, cond, eqb, List, [], ◌∷◌, ◌++◌, length, map, take, drop, replicate, Option, None, Some, Ok, refl, sym, ◌∙◌, ap, subst, arith, length-take, length-drop}
 use Rattle.std.specs.{Prelude.{not, ◌&&◌, nat_eq, is_none, is_some, slice_get, bytes_eq}, List.{enumerate_from, position_or_len}}
-use Rattle.std.specs.Option.{option_and_then, option_map, option_map_or}
+use Rattle.std.specs.Option.{option_map, option_map_or}
 use Rattle.std.proofs.lemmas.{Bool.{true≢false}, Option.{slice_get_within}, List.{length-map}}
 use Rattle.oc_base.specs.{declared.format.Word.{Word}, declared.format.Word.TheVariants.{W32}, declared.code.Code.TheVariants.{BadName, BadAlign, SectionKind}}
-use Rattle.oc_linking.specs.{declared.terms.Kind.{Kind}, declared.terms.Kind.TheVariants.{Code, ReadOnly, Data, Zero, Init, Fini, Debug, Exception, Note}}
-use Rattle.oc_linking.specs.FirstFault.{Condition, fault_of, first_broken, stage_fault}
+use Rattle.oc_linking.specs.{declared.terms.Kind.{Kind}, declared.terms.Kind.TheVariants.{Zero}, FirstFault.{Condition, fault_of, first_broken, stage_fault}}
 use Rattle.oc_linking.specs.Parts as parts
 use Rattle.oc_neutral.specs.{KindRules.{same_kind}, declared.section.Section.{Section}}
 use Rattle.oc_neutral.specs.{Building.{is_zero, limit_passed, section_added, size_sum, stored_size, stored_sum}, Invariants.{HasItsBytes, IsMember}}
@@ -88,15 +87,7 @@ sum_same f g zero same = refl
 sum_same f g (suc n) same = rw (sum_same f g n same, same n) refl
 
 zero_is : (k : Kind) → is_zero k ≡ same_kind Zero k
-zero_is Code = refl
-zero_is ReadOnly = refl
-zero_is Data = refl
-zero_is Zero = refl
-zero_is Init = refl
-zero_is Fini = refl
-zero_is Debug = refl
-zero_is Exception = refl
-zero_is Note = refl
+zero_is k = grind arith
 
 length-zeros : (n : ℕ) → length (replicate {A = ℕ} n 0) ≡ n
 length-zeros zero = refl
@@ -111,12 +102,10 @@ module _ (t : Tables) where
   size_at k = by (slice_get t.sections k) refl
     where
       one : (x : SectionTable) (o : Option Kind) → option_map_or (λ (s : parts.Section). s.size) (option_map (section_of t (k + 1) x) o) 0 ≡ cond (is_some o) x.header.SizeOfRawData 0
-      one x None = refl
-      one x (Some kind) = refl
+      one x o = grind arith
 
       by : (o : Option SectionTable) → slice_get t.sections k ≡ o → option_map_or (λ (s : parts.Section). (stored_as s).size) (section_at t k) 0 ≡ option_map_or (carried_size t) o 0
-      by None e = ap (λ (o : Option SectionTable). option_map_or (λ (s : parts.Section). (stored_as s).size) (option_map (λ (c : Carried). c.section) (option_and_then (λ (x : SectionTable). carried_of t (k + 1, x)) o)) 0) e
-      by (Some x) e = ap (λ (o : Option parts.Section). option_map_or (λ (s : parts.Section). s.size) o 0) (section_is t k x (kind_in t.strings x.header) e refl) ∙ one x (kind_in t.strings x.header)
+      by o e = grind arith
 
   bytes_at : (k : ℕ) → option_map_or (λ (s : parts.Section). stored_size (stored_as s)) (section_at t k) 0 ≡ worth_by (carried_bytes t) t k
   unfolding carried_at carried_of
@@ -128,8 +117,7 @@ module _ (t : Tables) where
       one x (Some kind) = ap (λ b. cond b 0 x.header.SizeOfRawData) (zero_is kind)
 
       by : (o : Option SectionTable) → slice_get t.sections k ≡ o → option_map_or (λ (s : parts.Section). stored_size (stored_as s)) (section_at t k) 0 ≡ option_map_or (carried_bytes t) o 0
-      by None e = ap (λ (o : Option SectionTable). option_map_or (λ (s : parts.Section). stored_size (stored_as s)) (option_map (λ (c : Carried). c.section) (option_and_then (λ (x : SectionTable). carried_of t (k + 1, x)) o)) 0) e
-      by (Some x) e = ap (λ (o : Option parts.Section). option_map_or (λ (s : parts.Section). cond (is_zero s.kind) 0 s.size) o 0) (section_is t k x (kind_in t.strings x.header) e refl) ∙ one x (kind_in t.strings x.header)
+      by o e = grind arith
 
   -- the sums of the sections so far
   sizes_are : (n : ℕ) → size_sum (map stored_as (collected (section_at t) n)) ≡ sum_upto (worth_by (carried_size t) t) n
@@ -196,8 +184,7 @@ module _ (w : Word) (file : CoffFile) (t : Tables) (clean : stage_fault (section
       not_below (length file.bytes) (x.header.PointerToRawData + x.header.SizeOfRawData) past
     where
       second : (a b : Bool) → a ≡ true → (a && b) ≡ false → b ≡ false
-      second true b e h = h
-      second false b e h = absurd (true≢false (sym e))
+      second a b e h = grind arith
 
 -- ... in words of the header
 
@@ -229,8 +216,7 @@ module _ (file : CoffFile) (h : SectionHeader) where
   raw_is kind stored = by (eqb h.PointerToRawData 0) refl
     where
       by : (z : Bool) → eqb h.PointerToRawData 0 ≡ z → cond z [] (take h.SizeOfRawData (drop h.PointerToRawData file.bytes)) ≡ take h.SizeOfRawData (drop h.PointerToRawData file.bytes)
-      by true g = absurd (true≢false (sym stored ∙ ap (λ b. not b && not (same_kind Zero kind)) g))
-      by false g = refl
+      by z g = grind arith
 
   module _ (t : Tables) (clean : stage_fault (section_stage file.bytes t) ≡ None) (i : ℕ) (here : slice_get t.sections i ≡ Some (section_table file.bytes h)) (kind : Kind) (is : kind_in t.strings h ≡ Some kind) where
     pub header_lies : is_stored (Some kind) h ≡ true → h.PointerToRawData + h.SizeOfRawData ≤ length file.bytes

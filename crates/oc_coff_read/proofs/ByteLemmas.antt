@@ -25,8 +25,7 @@ signed_small : (n : ℕ) → n < 65536 → signed_number n < 4294967296
 signed_small n low = by (nat_lt n 65280)
   where
     by : (b : Bool) → cond b n (n + 0xFFFF0000) < 4294967296
-    by true = omega (arith, low)
-    by false = omega (arith, low)
+    by b = grind arith
 
 symbol_small : (z : Shape) (file : List ℕ) → AreBytes file → (at : ℕ) → IsSmall (symbol_at z file at)
 unfolding symbol_at

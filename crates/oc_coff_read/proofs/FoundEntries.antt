@@ -53,9 +53,7 @@ good_by w t c p k r clean busy =
     x = judged c p (take k c.relocs) r
 
     aimed : (row : Row) (o : Option (Option Aim)) → is_none o ≡ false → is_wrong_aim row o ≡ false → (a : Aim) × (o ≡ Some (Some a))
-    aimed row None some right = absurd (true≢false some)
-    aimed row (Some None) some right = absurd (true≢false right)
-    aimed row (Some (Some a)) some right = (a, refl)
+    aimed row o some right = grind arith
 
     by : (o : Option Row) → row_of (coff_format w) r.Type ≡ o → first_broken ((is_none o, relocation_fault x RelocKind) ∷ option_map_or (row_conditions w x r (aim_in w t r.SymbolTableIndex)) o []) ≡ None → IsGood w t c k r
     by None g h = absurd (true≢false (all_hold ((true, relocation_fault x RelocKind) ∷ []) h).0)
@@ -148,8 +146,7 @@ module _ (w : Word) (t : Tables) (keep : Keep) (clean : stage_fault (relocation_
       record { k = m.place; here = m.there; busy = unset (says_nothing r) both.1; offset = eqb-true r.VirtualAddress at both.0 }
     where
       unset : (b : Bool) → not b ≡ true → b ≡ false
-      unset true e = absurd (true≢false (sym e))
-      unset false e = refl
+      unset b e = grind arith
 
   find_some : (test : Relocation → Bool) (xs : List Relocation) (k : ℕ) (x : Relocation) → slice_get xs k ≡ Some x → test x ≡ true → find test xs ≡ None → ⊥
   find_some test [] k x here passes none = none-some x here
@@ -157,8 +154,7 @@ module _ (w : Word) (t : Tables) (keep : Keep) (clean : stage_fault (relocation_
   find_some test (y ∷ xs) (suc k) x here passes none = by (test y) none (find_some test xs k x here passes)
     where
       by : (b : Bool) → cond b (Some y) (find test xs) ≡ None → (find test xs ≡ None → ⊥) → ⊥
-      by true e rest = none-some y (sym e)
-      by false e rest = rest e
+      by b e rest = grind arith
 
   -- an entry is the first at its offset
   pub first_is : (k : ℕ) (r : Relocation) → slice_get c.relocs k ≡ Some r → says_nothing r ≡ false → find (relocates r.VirtualAddress) c.relocs ≡ Some r

@@ -3,7 +3,7 @@ use Rattle.oc_coff.specs.{Files.{CoffFile, tables_in}, declared.relocation.Reloc
 use Rattle.oc_coff.specs.{Sections.{Carried, carried_in, sections_in}, Symbols.{is_own, symbol_of, symbols_in, value_of}}
 use Rattle.oc_coff.specs.{Targets.{Aim, aim_at, aim_by, aim_for, aim_in, target_in}, Forms.{coff_format}}
 use Rattle.oc_coff.specs.{Fields.{field_by, field_in, fields_in, relocates, says_nothing}, Rules.{dialect_by}, Head.{IsHeaded}}
-use Rattle.std.proofs.Common.{◌≡◌, ℕ, ◌⊎◌, inl, inr, Bool, true, false, cond, ℤ, List, Option, None, Some, refl, sym, ◌∙◌, ap, subst}
+use Rattle.std.proofs.Common.{◌≡◌, ℕ, ◌⊎◌, inl, inr, Bool, true, false, cond, ℤ, List, Option, None, Some, refl, sym, ◌∙◌, ap, subst, arith}
 use Rattle.std.specs.{Prelude.{not, nat_eq, find, slice_get}, Option.{option_and_then, option_map, unwrap_or}}
 use Rattle.std.proofs.lemmas.{Bool.{eqb-true, and_parts}, Option.{slice_get-map}}
 use Rattle.oc_base.specs.declared.format.Word.{Word}
@@ -138,8 +138,7 @@ module _ (w : Word) (b : CoffFile) (head : IsHeaded b) (keep : Keep) (n : Object
       kept false c = inl (refl, refl)
 
       none : (k : Bool) (o : Option Field) → o ≡ None → cond k o None ≡ None
-      none true o e = e
-      none false o e = refl
+      none k o e = grind arith
 
       by : (o : Option Carried) → slice_get (carried_in (tables_in b)) s ≡ o
           → Agree s at (cond (is_kept (dialect_by w b.shape) b.bytes keep s) (option_and_then (field_in w (target_in w (tables_in b)) s at) o) None)

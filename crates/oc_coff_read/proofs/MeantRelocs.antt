@@ -3,12 +3,12 @@ use Rattle.oc_coff.specs.{Files.{CoffFile, tables_in}, declared.relocation.Reloc
 use Rattle.oc_coff.specs.{Entries.{Entry, entries_in, entry_numbered}, Forms.{coff_format}, Sections.{sections_in}}
 use Rattle.oc_coff.specs.{Symbols.{is_own, symbol_of, symbols_in, value_of}, Targets.{Aim, aim_at, aim_by, aim_for, aim_in}, declared.meaning.Meaning.{Meaning}}
 use Rattle.oc_coff.specs.{Head.{IsHeaded}, Meanings.{meaning_of, meant_by}}
-use Rattle.std.proofs.Common.{◌≡◌, ℕ, ◌<◌, length, Bool, true, false, cond, List, Option, None, Some, refl, sym, ◌∙◌, ap, subst}
+use Rattle.std.proofs.Common.{◌≡◌, ℕ, ◌<◌, length, Bool, true, false, cond, List, Option, None, Some, refl, sym, ◌∙◌, ap, subst, arith}
 use Rattle.std.specs.{Prelude.{ℤ, ◌+ℤ◌, nat_eq}, Option.{option_and_then, option_map}}
 use Rattle.std.proofs.lemmas.{Bool.{eqb-true, true≢false}, Option.{none-some, same_Some}}
 use Rattle.oc_base.specs.declared.format.Word.{Word}
-use Rattle.oc_linking.specs.{declared.terms.Hint.{Hint}, declared.terms.Hint.TheVariants.{Plain, Call}, declared.terms.Less.{Less}}
-use Rattle.oc_linking.specs.{declared.terms.Value.{Value}, Targets.{symbol_target}}
+use Rattle.oc_linking.specs.{declared.terms.Hint.{Hint}, declared.terms.Hint.TheVariants.{Plain}, declared.terms.Less.{Less}, declared.terms.Value.{Value}}
+use Rattle.oc_linking.specs.Targets.{symbol_target}
 use Rattle.oc_linking.specs.declared.terms.Value.TheVariants as value
 use Rattle.oc_linking.specs.Parts as parts
 use Rattle.oc_linking.specs.Targets as file
@@ -29,8 +29,7 @@ unfolding from_field_of
 addend_is w row contents at = refl
 
 plain_hint : (h : Hint) → same_hint h Plain ≡ true → h ≡ Plain
-plain_hint Plain e = refl
-plain_hint Call e = absurd (true≢false (sym e))
+plain_hint h e = grind arith
 
 -- a relocation of a row, with its addend in other words
 made_is : (w : Word) (row : Row) (s : ℕ) (a : ℤ) (t : Target) → IsRow row → reloc_as (meant_by row) t (reduced_number w (a +ℤ shift_of row)) ≡ row_reloc w row s a t

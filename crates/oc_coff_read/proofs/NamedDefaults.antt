@@ -52,19 +52,14 @@ module _ (t : Tables) where
   external_other s f e = by (nat_eq s.SectionNumber 0) (nat_eq s.Value 0) (value_of (sections_in t) s) e
     where
       by : (a b : Bool) (o : Option Value) → cond a (cond b (Some Undefined) (Some (Common s.Value (natural_align s.Value)))) (option_map Global o) ≡ Some (Weak f) → ⊥
-      by true true o e = none_held Undefined f refl e
-      by true false o e = none_held (Common s.Value (natural_align s.Value)) f refl e
-      by false b None e = none-some (Weak f) e
-      by false b (Some v) e = none_held (Global v) f refl e
+      by a b o e = grind arith
 
   local_other : (name : List ℕ) (x : Entry) (f : Fallback) → local_binding (sections_in t) (entries_in t) name x ≡ Some (Weak f) → ⊥
   unfolding held
   local_other name x f e = by (is_own (entries_in t) x || is_nothing name) (value_of (sections_in t) x.symbol) e
     where
       by : (a : Bool) (o : Option Value) → cond a None (option_map Local o) ≡ Some (Weak f) → ⊥
-      by true o e = none-some (Weak f) e
-      by false None e = none-some (Weak f) e
-      by false (Some v) e = none_held (Local v) f refl e
+      by a o e = grind arith
 
   default_by : (number : ℕ) (d : Entry) → fallback_by (sections_in t) d ≡ Some (fallback.Name number) → (is_class IMAGE_SYM_CLASS_EXTERNAL d.symbol ≡ true) × (d.number ≡ number)
   unfolding held_number
@@ -129,12 +124,10 @@ module _ (t : Tables) (clean : stage_fault (symbol_stage t) ≡ None) (narrow : 
       few = narrow p d there
 
       second : (a b : Bool) → a ≡ true → (a && b) ≡ false → b ≡ false
-      second true b e h = h
-      second false b e h = absurd (true≢false (sym e))
+      second a b e h = grind arith
 
       first : (a b : Bool) → b ≡ true → (a && b) ≡ false → a ≡ false
-      first true b e h = absurd (true≢false (sym e ∙ h))
-      first false b e h = refl
+      first a b e h = grind arith
 
       nowhere : nat_eq n 0 ≡ false → nat_eq n IMAGE_SYM_ABSOLUTE ≡ false → position_of (sections_in t) n ≡ None → ⊥
       nowhere some relative none =
@@ -199,7 +192,4 @@ module _ (t : Tables) (clean : stage_fault (symbol_stage t) ≡ None) (narrow : 
                   last (is_class IMAGE_SYM_CLASS_STATIC d.symbol) _ (is_class IMAGE_SYM_CLASS_EXTERNAL d.symbol) (nat_eq d.symbol.SectionNumber IMAGE_SYM_DEBUG) static can
                 where
                   last : (a b c e : Bool) → a ≡ false → ((a && b) || (c && not e)) ≡ true → e ≡ false
-                  last true b c e g h = absurd (true≢false g)
-                  last false b true true g h = absurd (true≢false (sym h))
-                  last false b true false g h = refl
-                  last false b false e g h = absurd (true≢false (sym h))
+                  last a b c e g h = grind arith

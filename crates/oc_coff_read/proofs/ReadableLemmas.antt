@@ -1,12 +1,11 @@
 -- The sections of a file have names and tags that reading can give.
-use Rattle.oc_coff.specs.{declared.form.Shape.{Shape}, declared.form.Shape.TheVariants.{Usual, Big}, Files.{CoffFile, tables_in}, Tables.{Tables}}
-use Rattle.oc_coff.specs.{Forms.{format_by}, Names.{decimal_of, is_digit, is_nothing, name_for, section_name, string_at, until_nul}}
-use Rattle.oc_coff.specs.Sections.{kind_in, sections_in}
+use Rattle.oc_coff.specs.{declared.form.Shape.{Shape}, Files.{CoffFile, tables_in}, Tables.{Tables}, Forms.{format_by}}
+use Rattle.oc_coff.specs.{Names.{decimal_of, is_digit, is_nothing, name_for, section_name, string_at, until_nul}, Sections.{kind_in, sections_in}}
 use Rattle.std.proofs.Common.{◌≡◌, ℕ, suc, ◌+◌, ◌/◌, ◌%◌, ◌^◌, ◌<◌, ◌≤◌, Bool, true, false, cond, eqb, List, [], ◌∷◌, drop, take, Option, None, Some, refl, sym, ◌∙◌, ap, subst, arith, length}
 use Rattle.std.specs.{Prelude.{not, ◌&&◌, ◌||◌, nat_eq, nat_le, nat_lt, codes, slice_get}, List.{before_first, list_all, position_or_len}}
 use Rattle.std.specs.Option.{option_and_then, option_map, option_map_or, unwrap_or}
 use Rattle.std.proofs.lemmas.{Bool.{eq-eqb, ne_eqb, true≢false}, Bool.Decides.{nat_tests}, Option.{none-some, same_Some}}
-use Rattle.oc_base.specs.{declared.format.Word.{Word}, declared.format.Word.TheVariants.{W32, W64}}
+use Rattle.oc_base.specs.declared.format.Word.{Word}
 use Rattle.oc_linking.specs.{declared.terms.Kind.{Kind}, declared.terms.Kind.TheVariants.{Code, ReadOnly, Data, Zero, Init, Fini, Debug, Exception, Note}}
 use Rattle.oc_linking.specs.Parts as parts
 use Rattle.oc_neutral.specs.{declared.section.Section.{Section}, Coff.Family.{coff_gives}, Coff.Kinds.{coff_kind, coff_tag, is_unwind_name}}
@@ -89,10 +88,6 @@ abbrev kind_for : List ℕ → ℕ → ℕ → ℕ → ℕ → ℕ → ℕ → O
 kind_for name info remove zeros code execute write =
     rules_for (begins name (codes ".debug")) (is_unwind_name name) (nat_eq info 1) (nat_eq remove 1) (begins name (codes ".CRT$XC")) (begins name (codes ".CRT$XT")) (nat_eq zeros 1) (nat_eq code 1 || nat_eq execute 1) (nat_eq write 1)
 
-kind_by : (name : List ℕ) (flags : ℕ) → coff_kind name flags ≡ kind_for name (flags / 0x200 % 2) (flags / 0x800 % 2) (flags / 0x80 % 2) (flags / 0x20 % 2) (flags / 0x20000000 % 2) (flags / 0x80000000 % 2)
-unfolding coff_kind
-kind_by name flags = refl
-
 -- the flags that a tag has are those by which the kind is told
 pub record IsCut (flags : ℕ) : Type 0 where
   pub info : coff_tag flags / 0x200 % 2 ≡ flags / 0x200 % 2
@@ -130,22 +125,13 @@ gives_at name flags kind low is =
     below a b c l m = grind (arith, nat_tests)
 
     all_three : (a b c : Bool) → a ≡ true → b ≡ true → c ≡ true → (a && b && c) ≡ true
-    all_three true true true d e g = refl
-    all_three true true false d e g = absurd (true≢false (sym g))
-    all_three true false c d e g = absurd (true≢false (sym e))
-    all_three false b c d e g = absurd (true≢false (sym d))
+    all_three a b c d e g = grind arith
 
 gives_is : (w : Word) (z : Shape) (kind : Kind) (name : List ℕ) (tag : ℕ) → can_have (format_by w z) kind name tag ≡ (not (has_nul name) && coff_gives kind name tag)
-gives_is W32 Usual kind name tag = refl
-gives_is W32 Big kind name tag = refl
-gives_is W64 Usual kind name tag = refl
-gives_is W64 Big kind name tag = refl
+gives_is w z kind name tag = grind arith
 
 pub blank_is : (w : Word) (z : Shape) (tag : ℕ) → is_blank_type (format_by w z) tag ≡ false
-blank_is W32 Usual tag = refl
-blank_is W32 Big tag = refl
-blank_is W64 Usual tag = refl
-blank_is W64 Big tag = refl
+blank_is w z tag = grind arith
 
 -- ... all
 
@@ -163,8 +149,7 @@ module _ (w : Word) (file : CoffFile) (bytes : AreBytes file.bytes) where
     pub kind_is : coff_kind name flags ≡ Some kind
 
   named_by : (o : Option (List ℕ)) (flags : ℕ) (kind : Kind) → option_and_then (λ name. coff_kind name flags) o ≡ Some kind → IsNamed o flags kind
-  named_by None flags kind e = absurd (none-some kind e)
-  named_by (Some name) flags kind e = record { name = name; is = refl; kind_is = e }
+  named_by o flags kind e = grind arith
 
   givable : (k : ℕ) (s : parts.Section) → slice_get (sections_in t) k ≡ Some s → IsGivable (stored_section (keys_of t) s)
   unfolding kind_in

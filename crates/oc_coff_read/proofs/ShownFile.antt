@@ -2,9 +2,9 @@
 use Rattle.oc_coff.specs.{Files.{CoffFile, tables_in}, HeaderFaults.{header_stage}, RelocationFaults.{relocation_stage}}
 use Rattle.oc_coff.specs.{Rules.{dialect_by, fault_by, stages_of}, SectionFaults.{section_stage}, SymbolFaults.{symbol_stage}, Symbols.{symbols_in}}
 use Rattle.oc_coff.specs.Head.{IsHeaded}
-use Rattle.std.proofs.Common.{◌≡◌, ℕ, ◌<◌, length, Option, None, Some, refl, sym, ◌∙◌, ap, subst}
+use Rattle.std.proofs.Common.{◌≡◌, ℕ, ◌<◌, length, Option, None, Some, refl, sym, ◌∙◌, ap, subst, arith}
 use Rattle.std.specs.Prelude.{slice_get}
-use Rattle.std.proofs.lemmas.{Bool.{true≢false}, Option.{none-some}}
+use Rattle.std.proofs.lemmas.Bool.{true≢false}
 use Rattle.oc_base.specs.{declared.format.Word.{Word}, declared.fault.Fault.{Fault}}
 use Rattle.oc_linking.specs.{declared.terms.Keep.{Keep}, FirstFault.{first_fault, stage_fault}, Numbers.{or_else}}
 use Rattle.oc_neutral.specs.{declared.reloc.Reloc.{Reloc}, declared.reloc.Target.{Target}, Building.{Draft}}
@@ -28,8 +28,7 @@ pub record IsClean (w : Word) (file : CoffFile) (keep : Keep) : Type 0 where
   pub relocs : stage_fault (relocation_stage w (tables_in file) keep) ≡ None
 
 none_of : (a b : Option Fault) → or_else a b ≡ None → (a ≡ None) × (b ≡ None)
-none_of None b e = (refl, e)
-none_of (Some f) b e = absurd (none-some f (sym e))
+none_of a b e = grind arith
 
 pub stages_clean : (w : Word) (file : CoffFile) (keep : Keep) → first_fault (rest_stages w file keep) ≡ None → IsClean w file keep
 stages_clean w file keep none =

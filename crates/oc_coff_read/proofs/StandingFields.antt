@@ -69,8 +69,7 @@ module _ (w : Word) (b : CoffFile) (head : IsHeaded b) (keep : Keep) (n : Object
   by_entry row s a e None is r h = by (is_own (entries_in (tables_in b)) e) h
     where
       by : (c : Bool) → cond c (option_and_then (reloc_at w row s a) (value_of (sections_in (tables_in b)) e.symbol)) None ≡ Some r → IsAgainst row s e r
-      by true h = by_value row s a e (value_of (sections_in (tables_in b)) e.symbol) refl r h
-      by false h = absurd (none-some r h)
+      by c h = grind arith
 
   -- the entry of its symbol
   pub record IsMade (s : ℕ) (entry : Relocation) (row : Row) (r : Reloc) : Type 0 where

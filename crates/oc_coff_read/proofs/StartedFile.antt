@@ -1,12 +1,12 @@
 -- What is built of a file before its relocations is what the file starts with.
 use Rattle.oc_shelf.specs.Reading.Collected.{collected}
-use Rattle.oc_coff.specs.{Tables.{tables_of, SectionTable, Tables}, declared.form.Shape.{Shape}, declared.form.Shape.TheVariants.{Usual, Big}}
-use Rattle.oc_coff.specs.{Files.{CoffFile, tables_in}, Entries.{entries_in}, Forms.{format_by}, Rules.{dialect_by}}
-use Rattle.oc_coff.specs.{Sections.{Carried, carried_of, is_stored, kind_in, section_of, sections_in}, Symbols.{symbols_in}, Head.{IsHeaded}}
-use Rattle.std.proofs.Common.{◌≡◌, ℕ, ◌+◌, Bool, true, false, cond, List, [], length, map, replicate, Option, None, Some, refl, sym, ◌∙◌, ap, subst}
+use Rattle.oc_coff.specs.{Tables.{tables_of, SectionTable, Tables}, declared.form.Shape.{Shape}, Files.{CoffFile, tables_in}, Entries.{entries_in}}
+use Rattle.oc_coff.specs.{Forms.{format_by}, Rules.{dialect_by}, Sections.{Carried, carried_of, is_stored, kind_in, section_of, sections_in}}
+use Rattle.oc_coff.specs.{Symbols.{symbols_in}, Head.{IsHeaded}}
+use Rattle.std.proofs.Common.{◌≡◌, ℕ, ◌+◌, Bool, true, false, cond, List, [], length, map, replicate, Option, None, Some, refl, sym, ◌∙◌, ap, subst, arith}
 use Rattle.std.specs.{Prelude.{not, ◌&&◌, nat_eq, is_some, slice_get}, Option.{option_and_then, option_map}}
 use Rattle.std.proofs.lemmas.{Bool.{true≢false}, Option.{none-some, same_Some}}
-use Rattle.oc_base.specs.{declared.format.Word.{Word}, declared.format.Word.TheVariants.{W32, W64}, Formats.{word_for}}
+use Rattle.oc_base.specs.{declared.format.Word.{Word}, Formats.{word_for}}
 use Rattle.oc_linking.specs.{declared.terms.Binding.TheVariants.{Weak}, declared.terms.Keep.{Keep}, declared.terms.Kind.{Kind}}
 use Rattle.oc_linking.specs.{declared.terms.Kind.TheVariants.{Code, ReadOnly, Data, Zero, Init, Fini, Debug, Exception, Note}, Values.{numbered}}
 use Rattle.oc_linking.specs.declared.terms.Fallback.TheVariants as fallback
@@ -26,8 +26,7 @@ zeros_by : (t : Tables) (k : ℕ) (x : SectionTable) (kind : Kind) → is_zero k
 zeros_by t k x Zero is = ap (λ b. cond b x.raw (replicate x.header.SizeOfRawData 0)) (never (not (nat_eq x.header.PointerToRawData 0)))
   where
     never : (b : Bool) → (b && false) ≡ false
-    never true = refl
-    never false = refl
+    never b = grind arith
 zeros_by t k x Code is = absurd (true≢false (sym is))
 zeros_by t k x ReadOnly is = absurd (true≢false (sym is))
 zeros_by t k x Data is = absurd (true≢false (sym is))
@@ -58,10 +57,7 @@ zeros_in t k s there = by (collected-from (section_at t) (length t.sections) k s
     by m = zeros_at t m.k s m.is
 
 word_is : (w : Word) (z : Shape) → w ≡ word_for (format_by w z)
-word_is W32 Usual = refl
-word_is W32 Big = refl
-word_is W64 Usual = refl
-word_is W64 Big = refl
+word_is w z = grind arith
 
 -- each default that is named is there
 abbrev pub AreNamed : Tables → Type 0

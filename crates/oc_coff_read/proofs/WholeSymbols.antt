@@ -1,5 +1,5 @@
 -- The symbols of a file without faults speak of things that are there.
-use Rattle.oc_coff.specs.{declared.form.Shape.{Shape}, declared.form.Shape.TheVariants.{Usual, Big}, Files.{CoffFile, tables_in}}
+use Rattle.oc_coff.specs.{declared.form.Shape.{Shape}, Files.{CoffFile, tables_in}}
 use Rattle.oc_coff.specs.declared.constants.TheConstants.{IMAGE_SYM_SECTION_MAX_EX, IMAGE_SYM_CLASS_EXTERNAL, IMAGE_SYM_CLASS_LABEL, IMAGE_SYM_CLASS_STATIC, IMAGE_SYM_CLASS_WEAK_EXTERNAL}
 use Rattle.oc_coff.specs.{declared.symbol.SymbolEntry.{SymbolEntry}, Tables.{SectionTable, Tables}, Names.{is_nothing}, Comdat.{section_numbered}}
 use Rattle.oc_coff.specs.{Entries.{Entry, entries_in, entry_numbered, has_section, is_class, name_of}, Forms.{format_by}}
@@ -10,13 +10,12 @@ use Rattle.std.proofs.Common.{◌≡◌, ◌≢◌, ℕ, ◌+◌, ◌-◌, ◌<�
 use Rattle.std.specs.{Prelude.{◌&&◌, ◌||◌, nat_eq, nat_le, nat_lt, slice_get}, Option.{option_and_then, option_map, option_map_or, unwrap_or}}
 use Rattle.std.proofs.lemmas.{Bool.{ne_eqb, true≢false}, Bool.Decides.{nat_tests}}
 use Rattle.std.proofs.lemmas.Option.{none-some, same_Some, slice_get-map, slice_get-get_or, slice_get_within}
-use Rattle.oc_base.specs.{declared.format.Word.{Word}, declared.format.Word.TheVariants.{W32, W64}, Formats.{word_for}}
+use Rattle.oc_base.specs.{declared.format.Word.{Word}, Formats.{word_for}}
 use Rattle.oc_linking.specs.{declared.terms.Binding.{Binding}, declared.terms.Binding.TheVariants.{Local, Global, Undefined, Common, Weak}}
 use Rattle.oc_linking.specs.{declared.terms.Fallback.{Fallback}, declared.terms.Kind.{Kind}, declared.terms.Value.{Value}, FirstFault.{stage_fault}}
 use Rattle.oc_linking.specs.Numbers.{first_from, modulus}
 use Rattle.oc_linking.specs.declared.terms.Fallback.TheVariants as fallback
 use Rattle.oc_linking.specs.declared.terms.Value.TheVariants as value
-use Rattle.oc_linking.proofs.Searching.{first_from_found}
 use Rattle.oc_linking.specs.Parts as parts
 use Rattle.oc_neutral.specs.{declared.symbol.Symbol.{Symbol}, Faces.{number_of}}
 use Rattle.oc_neutral.specs.{Invariants.{AreBytes, HasOffset, IsAlign, IsBinding, IsOriginal, IsSymbol, IsValue, is_strong}, Objects.{Object}}
@@ -78,16 +77,12 @@ pub natural_aligns : (n : ℕ) → IsAlign (natural_align n)
 natural_aligns n = by (first_from (λ k. nat_le n (2 ^ k)) 0 5) refl
   where
     by : (o : Option ℕ) → first_from (λ k. nat_le n (2 ^ k)) 0 5 ≡ o → IsAlign (2 ^ unwrap_or o 5)
-    by None e = (5, omega arith, refl)
-    by (Some i) e = let m = first_from_found (λ k. nat_le n (2 ^ k)) 0 5 i e in let low = m.1 in (i, omega (arith, low), refl)
+    by o e = grind arith
 
 -- ... symbols
 
 word_room : (w : Word) (z : Shape) → 4294967296 ≤ modulus (word_for (format_by w z))
-word_room W32 Usual = omega arith
-word_room W32 Big = omega arith
-word_room W64 Usual = omega arith
-word_room W64 Big = omega arith
+word_room w z = grind arith
 
 module _ (w : Word) (file : CoffFile) (head : IsHeaded file) (bytes : AreBytes file.bytes) (clean : stage_fault (symbol_stage (tables_in file)) ≡ None) where
   abbrev t : Tables
@@ -170,10 +165,7 @@ module _ (w : Word) (file : CoffFile) (head : IsHeaded file) (bytes : AreBytes f
   external_strong s b is = by (nat_eq s.SectionNumber 0) (nat_eq s.Value 0) (value_of (sections_in t) s) is
     where
       by : (a c : Bool) (o : Option Value) → cond a (cond c (Some Undefined) (Some (Common s.Value (natural_align s.Value)))) (option_map Global o) ≡ Some b → is_strong b ≡ true
-      by true true o h = ap is_strong (sym (same_Some Undefined b h))
-      by true false o h = ap is_strong (sym (same_Some (Common s.Value (natural_align s.Value)) b h))
-      by false c None h = absurd (none-some b h)
-      by false c (Some v) h = ap is_strong (sym (same_Some (Global v) b h))
+      by a c o h = grind arith
 
   external_there : (p : ℕ) (e : Entry) → slice_get (entries_in t) p ≡ Some e → (b : Binding) → external_binding (sections_in t) e.symbol ≡ Some b → IsBinding object (placed_binding (symbols_in t) b)
   external_there p e there b is = by (nat_eq e.symbol.SectionNumber 0) (nat_eq e.symbol.Value 0) (value_of (sections_in t) e.symbol) refl is
@@ -237,11 +229,7 @@ module _ (w : Word) (file : CoffFile) (head : IsHeaded file) (bytes : AreBytes f
               (cond (is_class IMAGE_SYM_CLASS_STATIC d.symbol || is_class IMAGE_SYM_CLASS_LABEL d.symbol) (local_binding (sections_in t) (entries_in t) (name_of t.strings d) d) None))) external) ∙ m.bound
 
           placed_strong : (b : Binding) → is_strong b ≡ true → is_strong (placed_binding (symbols_in t) b) ≡ true
-          placed_strong (Local v) e = e
-          placed_strong (Global v) e = refl
-          placed_strong Undefined e = refl
-          placed_strong (Common size align) e = refl
-          placed_strong (Weak f) e = absurd (true≢false (sym e))
+          placed_strong b e = grind arith
 
           strong : is_strong (placed_binding (symbols_in t) y.binding) ≡ true
           strong = placed_strong y.binding (ap is_strong (sym (ap (λ (x : parts.Symbol). x.binding) m.is)) ∙ external_strong d.symbol m.binding bound)
@@ -309,13 +297,10 @@ module _ (w : Word) (file : CoffFile) (head : IsHeaded file) (bytes : AreBytes f
       public external = true≢false (sym (ap (λ b. b && is_nothing (name_of t.strings e)) external ∙ nothing) ∙ (sound_at p e there).1.full)
 
       or_true : (a : Bool) → (a || true) ≡ true
-      or_true true = refl
-      or_true false = refl
+      or_true a = grind arith
 
       local : (a c : Bool) (o : Option Value) → c ≡ true → cond (a || c) None (option_map Local o) ≡ Some b → ⊥
-      local true c o g h = none-some b h
-      local false true o g h = none-some b h
-      local false false o g h = true≢false (sym g)
+      local a c o g h = grind arith
 
       by : (a c : Bool) → is_class IMAGE_SYM_CLASS_EXTERNAL e.symbol ≡ a → is_class IMAGE_SYM_CLASS_WEAK_EXTERNAL e.symbol ≡ c → (s : Bool)
           → cond a (external_binding (sections_in t) e.symbol) (cond c (weak_binding (sections_in t) (entries_in t) e) (cond s (local_binding (sections_in t) (entries_in t) (name_of t.strings e) e) None)) ≡ Some b → ⊥

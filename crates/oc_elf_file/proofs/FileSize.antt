@@ -11,7 +11,7 @@ use Rattle.oc_neutral.specs.Families.{is_many}
 use Rattle.oc_shows.specs.SymbolLines.{needs_signature}
 use Rattle.oc_shelf.specs.Writing.Parts.{laid, behind}
 use Rattle.oc_elf.specs.{declared.class.ElfClass.{ElfClass}, Classes.{format_of, word_of}, Ehdr.{ehdr_size}, Shdr.{shdr_size}, Sym.{sym_size}, Rel.{rel_size}}
-use Rattle.oc_base.specs.{declared.format.Word.{Word}, declared.format.Word.TheVariants.{W32, W64}}
+use Rattle.oc_base.specs.declared.format.Word.{Word}
 use Rattle.oc_elf_file.specs.Heads.{Head, NullHead, RelocHead, SymtabHead, ShndxHead, StrtabHead, ShstrtabHead, placed_sections, group_head, section_head, reloc_head, group_heads, section_heads, reloc_heads, table_heads_by, table_heads, heads_of, head_size, numbered_heads, head_name, reloc_prefix}
 use Rattle.oc_elf_file.specs.Lines.{Line, NullLine, SectionLine, SignatureLine, LocalLine, OuterLine, lines_of, line_name, section_lines, signature_lines, lines_where, inner_lines, outer_lines}
 use Rattle.oc_elf_file.specs.Groups.{member_number, group_words}
@@ -128,8 +128,7 @@ module _ (class : ElfClass) (n : Object) (is : IsForElf class n) where
   reloc_names i (s ∷ xs) = by (eqb (length (list_of n.relocs i)) 0) (reloc_names (i + 1) xs) (sum_by-cons (λ (s : Section). length s.name) s xs)
     where
       long : (word : Word) → length (reloc_prefix word) ≤ 5
-      long W32 = omega arith
-      long W64 = omega arith
+      long word = grind arith
 
       by : (b : Bool) → sum_by (λ (h : Head). ended_size (head_name class h)) (filter_map (reloc_head n) (enumerate_from (i + 1) xs)) ≤ sum_by (λ (s : Section). length s.name) xs + 6 * length xs
           → sum_by (λ (s : Section). length s.name) (s ∷ xs) ≡ length s.name + sum_by (λ (s : Section). length s.name) xs
@@ -142,8 +141,7 @@ module _ (class : ElfClass) (n : Object) (is : IsForElf class n) where
           omega (arith, rest, sum, a, b, c)
 
   tables_text : (b : Bool) → sum_by (λ (h : Head). ended_size (head_name class h)) (table_heads_by b) ≤ 40
-  tables_text true = omega arith
-  tables_text false = omega arith
+  tables_text b = grind arith
 
   pub head_text : sum_by ended_size (map (head_name class) (heads_of n)) ≤ 41 + 7 * length n.groups + (section_text + length n.sections) + (section_text + 6 * length n.sections)
   unfolding heads_of
@@ -200,8 +198,7 @@ module _ (class : ElfClass) (n : Object) (is : IsForElf class n) where
       (relocs_size (i + 1) xs ls (omega (arith, e)) (λ j. let next : i + 1 + j ≡ i + suc j = omega arith in ap (list_of n.relocs) next ∙ same (suc j)))
     where
       wide : (word : Word) (m : ℕ) → rel_size word * m ≤ 24 * m
-      wide W32 m = omega arith
-      wide W64 m = omega arith
+      wide word m = grind arith
 
       by : (b : Bool) → length (list_of n.relocs i) ≡ length l → sum_by length (l ∷ ls) ≡ length l + sum_by length ls
           → sum_by head_size_of (filter_map (reloc_head n) (enumerate_from (i + 1) xs)) ≤ 24 * sum_by length ls + 16 * length xs
@@ -213,16 +210,13 @@ module _ (class : ElfClass) (n : Object) (is : IsForElf class n) where
           omega (arith, rest, sum, own, a, w)
 
   sym_low : (word : Word) (m : ℕ) → sym_size word * m ≤ 24 * m
-  sym_low W32 m = omega arith
-  sym_low W64 m = omega arith
+  sym_low word m = grind arith
 
   shdr_low : (word : Word) (m : ℕ) → shdr_size word * m ≤ 64 * m
-  shdr_low W32 m = omega arith
-  shdr_low W64 m = omega arith
+  shdr_low word m = grind arith
 
   ehdr_low : (word : Word) → ehdr_size word ≤ 64
-  ehdr_low W32 = omega arith
-  ehdr_low W64 = omega arith
+  ehdr_low word = grind arith
 
   tables_size : (b : Bool) → sum_by head_size_of (table_heads_by b) ≤ head_size_of SymtabHead + head_size_of ShndxHead + head_size_of StrtabHead + head_size_of ShstrtabHead
   tables_size true =

@@ -13,8 +13,7 @@ use Rattle.oc_elf_file.proofs.{CodedLaws.{IsForElf, most_low, most_plain}, Reloc
 use Rattle.oc_shows.proofs.FoundLaws.{found_in}
 
 pub most_tables : (b : Bool) → cond {A = ℕ} b 5 4 ≤ 5
-most_tables true = omega arith
-most_tables false = omega arith
+most_tables b = grind arith
 
 module _ (class : ElfClass) (n : Object) (is : IsForElf class n) where
   -- a section with relocations in the list has some in the output
@@ -57,8 +56,7 @@ module _ (class : ElfClass) (n : Object) (is : IsForElf class n) where
   counted_tables = by (is_many n.format) ∙ ap (λ f. cond {A = ℕ} (is_many f) 5 4) is.format
     where
       by : (b : Bool) → length (table_heads_by b) + 1 ≡ cond {A = ℕ} b 5 4
-      by true = refl
-      by false = refl
+      by b = grind arith
 
   pub few_heads : length (heads_of n) ≤ 4194304
   few_heads =

@@ -8,7 +8,7 @@ use Rattle.oc_base.proofs.NumberLaws.{length-table}
 use Rattle.oc_neutral.specs.Objects.{Object}
 use Rattle.oc_shelf.specs.Writing.Parts.{place_where}
 use Rattle.oc_shelf.proofs.{ReadingLaws.StageLemmas.{Unbroken}, WritingLaws.StandingLemmas.{stands_inside}}
-use Rattle.oc_base.specs.{declared.format.Word.{Word}, declared.format.Word.TheVariants.{W32, W64}}
+use Rattle.oc_base.specs.declared.format.Word.{Word}
 use Rattle.oc_elf_file.specs.{Heads.{ShstrtabHead, heads_of, head_where, is_shstrtab_head}, Layout.{laid_parts, is_head_table}}
 use Rattle.oc_elf_file.specs.{Headers.{shdr_of, zero_shdr, stored_headers}, Canonical.{file_header, elf_file}}
 use Rattle.oc_elf_file.proofs.{StructureLaws.{length-ehdr_bytes, length-shdr_bytes}, HeadLaws.{shstrtab_at}}
@@ -48,8 +48,7 @@ module _ (class : ElfClass) (n : Object) (is : IsForElf class n) (fits : IsCodab
       omega (arith, inside, size)
 
   same : (word : Word) → (eqb (ehdr_size word) (ehdr_size word) ≡ true) × (eqb (machine_of word) (machine_of word) ≡ true) × (eqb (shdr_size word) (shdr_size word) ≡ true)
-  same W32 = (refl, refl, refl)
-  same W64 = (refl, refl, refl)
+  same word = grind arith
 
   -- header 0 lies in the file
   first_inside : place_where is_head_table (laid_parts class n) + shdr_size (word_of class) ≤ length file
@@ -60,8 +59,7 @@ module _ (class : ElfClass) (n : Object) (is : IsForElf class n) (fits : IsCodab
       omega (arith, all, more)
     where
       times : (word : Word) (m : ℕ) → 1 ≤ m → shdr_size word ≤ shdr_size word * m
-      times W32 m some = omega (arith, some)
-      times W64 m some = omega (arith, some)
+      times word m some = grind arith
 
   pub header_clean : Unbroken (header_conditions class (length file) (file_header class n) (zero_shdr class n))
   unfolding header_conditions file_header
@@ -106,5 +104,4 @@ module _ (class : ElfClass) (n : Object) (is : IsForElf class n) (fits : IsCodab
       (ap (λ (x : Shdr). not (eqb (length (made_frame class n).headers) 0) && not (eqb x.sh_type 3)) b.1 ∙ and_no (not (eqb (length (made_frame class n).headers) 0)), tt)
     where
       and_no : (b : Bool) → (b && false) ≡ false
-      and_no true = refl
-      and_no false = refl
+      and_no b = grind arith

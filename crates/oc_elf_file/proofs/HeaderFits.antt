@@ -44,12 +44,10 @@ header_fits W64 s m =
     (omega (arith, a), (omega (arith, b), (omega (arith, c), (omega arith, (omega (arith, d), (omega (arith, e), (omega (arith, f), (omega (arith, g), (omega (arith, h), (omega (arith, i), tt))))))))))
 
 word_low : (word : Word) → word_bytes word < 2 ^ 32
-word_low W32 = omega arith
-word_low W64 = omega arith
+word_low word = grind arith
 
 type_low : (word : Word) → reloc_type word < 2 ^ 32
-type_low W32 = omega arith
-type_low W64 = omega arith
+type_low word = grind arith
 
 module _ (class : ElfClass) (n : Object) (is : IsForElf class n) where
   -- ... what stands in the file is small
@@ -198,8 +196,7 @@ module _ (class : ElfClass) (n : Object) (is : IsForElf class n) where
       }
     where
       rel_low : (word : Word) → rel_size word < 2 ^ 32
-      rel_low W32 = omega arith
-      rel_low W64 = omega arith
+      rel_low word = grind arith
   small_header k SymtabHead here b own =
       let l = body_low k SymtabHead here b in
       let link = head_low (head_where n is_strtab_head) StrtabHead (strtab_at n) in
@@ -217,8 +214,7 @@ module _ (class : ElfClass) (n : Object) (is : IsForElf class n) where
       }
     where
       sym_low : (word : Word) → sym_size word < 2 ^ 32
-      sym_low W32 = omega arith
-      sym_low W64 = omega arith
+      sym_low word = grind arith
   small_header k ShndxHead here b own =
       let l = body_low k ShndxHead here b in
       let link = head_low (head_where n is_symtab_head) SymtabHead (symtab_at n) in
@@ -248,8 +244,7 @@ module _ (class : ElfClass) (n : Object) (is : IsForElf class n) where
   -- the numbers in the file header
 
   none_right : (a : Bool) → (a && false) ≡ false
-  none_right true = refl
-  none_right false = refl
+  none_right a = grind arith
 
   pub count_low : shown_count class (length (heads_of n)) < 2 ^ 16
   count_low = by (is_big class) refl

@@ -6,7 +6,7 @@ use Rattle.oc_neutral.specs.Objects.{Object}
 use Rattle.oc_shelf.specs.Writing.Parts.{laid, place_where}
 use Rattle.oc_shelf.proofs.WritingLaws.StandingLemmas.{stands_inside}
 use Rattle.oc_elf.specs.{declared.class.ElfClass.{ElfClass}, Classes.{is_big, word_of}, Ehdr.{ehdr_size}, Structures.{ehdr_bytes}}
-use Rattle.oc_base.specs.{declared.format.Word.{Word}, declared.format.Word.TheVariants.{W32, W64}}
+use Rattle.oc_base.specs.declared.format.Word.{Word}
 use Rattle.oc_elf_file.specs.Heads.{Head, ShstrtabHead, heads_of, head_where, is_shstrtab_head}
 use Rattle.oc_elf_file.specs.Layout.{Body, HeadTable, parts_of, part_size, part_begin, is_head_table}
 use Rattle.oc_elf_file.specs.Canonical.{shown_count, shown_names, file_header, elf_file}
@@ -40,8 +40,7 @@ module _ (class : ElfClass) (n : Object) where
       ne_eqb (file_header class n).e_shoff 0 (λ e. omega (arith, behind, some, e))
     where
       long : (word : Word) → 1 ≤ ehdr_size word
-      long W32 = omega arith
-      long W64 = omega arith
+      long word = grind arith
 
   -- where sections are many, their number stands in header 0
   pub big_number : is_big class ≡ true → (file_header class n).e_shnum ≡ 0

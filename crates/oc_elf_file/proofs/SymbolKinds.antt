@@ -7,7 +7,7 @@ use Rattle.std.proofs.Common.{◌≡◌, ℕ, ◌≤◌, ◌⊎◌, inl, inr, Bo
 use Rattle.std.specs.Prelude.{slice_get, nat_lt}
 use Rattle.std.proofs.lemmas.{Bool.{ne_eqb, lt-ltb}, Option.{slice_get_within}}
 use Rattle.oc_linking.specs.{declared.terms.Binding.{Binding}, declared.terms.Binding.TheVariants.{Local, Global, Undefined, Common, Weak}}
-use Rattle.oc_linking.specs.{declared.terms.Mark.{Mark}, declared.terms.Mark.TheVariants.{NoType, Object as ObjectMark, Function}}
+use Rattle.oc_linking.specs.{declared.terms.Mark.{Mark}, declared.terms.Mark.TheVariants.{Object as ObjectMark}}
 use Rattle.oc_linking.specs.declared.terms.Fallback.TheVariants as fallback
 use Rattle.oc_linking.specs.declared.terms.Value.TheVariants as value
 use Rattle.oc_neutral.specs.{declared.section.Section.{Section}, declared.symbol.Symbol.{Symbol}, Invariants.{IsBinding, IsAlign, HasOffset}, Objects.{Object}}
@@ -32,21 +32,7 @@ unfolding is_odd_symbol
 odd_by y bind type low absolute common undefined a b c d e g = rw (a, b, c, d, e, g) refl
 
 odd_place : (b : Binding) (m : Mark) → odd_form (bind_by b) (type_by m) true false false false ≡ false
-odd_place (Local v) NoType = refl
-odd_place (Local v) ObjectMark = refl
-odd_place (Local v) Function = refl
-odd_place (Global v) NoType = refl
-odd_place (Global v) ObjectMark = refl
-odd_place (Global v) Function = refl
-odd_place Undefined NoType = refl
-odd_place Undefined ObjectMark = refl
-odd_place Undefined Function = refl
-odd_place (Common size align) NoType = refl
-odd_place (Common size align) ObjectMark = refl
-odd_place (Common size align) Function = refl
-odd_place (Weak f) NoType = refl
-odd_place (Weak f) ObjectMark = refl
-odd_place (Weak f) Function = refl
+odd_place b m = grind arith
 
 -- what an entry meets by its section and value
 pub record IsFine (n : Object) (f : FileFrame) (y : Sym) : Type 0 where
@@ -127,29 +113,21 @@ module _ (class : ElfClass) (n : Object) (is : IsForElf class n) (fits : IsCodab
   absolute_odd bind m (inl e) = ap (λ b. odd_form b (type_by m) false true false false) e ∙ by m
     where
       by : (m : Mark) → odd_form 0 (type_by m) false true false false ≡ false
-      by NoType = refl
-      by ObjectMark = refl
-      by Function = refl
+      by m = grind arith
   absolute_odd bind m (inr e) = ap (λ b. odd_form b (type_by m) false true false false) e ∙ by m
     where
       by : (m : Mark) → odd_form 1 (type_by m) false true false false ≡ false
-      by NoType = refl
-      by ObjectMark = refl
-      by Function = refl
+      by m = grind arith
 
   elsewhere_odd : (bind : ℕ) (m : Mark) → (bind ≡ 1) ⊎ (bind ≡ 2) → odd_form bind (type_by m) true false false true ≡ false
   elsewhere_odd bind m (inl e) = ap (λ b. odd_form b (type_by m) true false false true) e ∙ by m
     where
       by : (m : Mark) → odd_form 1 (type_by m) true false false true ≡ false
-      by NoType = refl
-      by ObjectMark = refl
-      by Function = refl
+      by m = grind arith
   elsewhere_odd bind m (inr e) = ap (λ b. odd_form b (type_by m) true false false true) e ∙ by m
     where
       by : (m : Mark) → odd_form 2 (type_by m) true false false true ≡ false
-      by NoType = refl
-      by ObjectMark = refl
-      by Function = refl
+      by m = grind arith
 
   aligned : (align : ℕ) → IsAlign align → is_power 20 align ≡ true
   aligned align a = ap (is_power 20) a.2 ∙ power_found a.0 0 21 (omega arith) (let l = a.1 in omega (arith, l))

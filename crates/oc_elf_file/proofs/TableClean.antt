@@ -4,16 +4,16 @@ use Rattle.oc_elf.specs.{declared.shdr.Shdr.{Shdr}, Classes.{reloc_type, foreign
 use Rattle.oc_elf.specs.{Sections.{is_type, shndx_number, symtab_among, table_among, relocated_by}, Sym.{sym_size}}
 use Rattle.oc_elf.specs.SectionRules.{known_types, has_entries, is_left_out, is_good_symtab, is_good_table, is_good_shndx, table_conditions}
 use Rattle.oc_neutral.proofs.Positions.{there_at}
-use Rattle.std.proofs.Common.{◌≡◌, ℕ, zero, suc, ◌+◌, ◌*◌, ◌%◌, ◌/◌, ◌<◌, inl, inr, Bool, true, false, not, ◌&&◌, ◌||◌, cond, eqb, List, [], ◌∷◌, length, Option, Some, None, refl, sym, ◌∙◌, ap, arith}
+use Rattle.std.proofs.Common.{◌≡◌, ℕ, ◌+◌, ◌*◌, ◌%◌, ◌/◌, ◌<◌, inl, inr, Bool, true, false, not, ◌&&◌, ◌||◌, cond, eqb, List, [], ◌∷◌, length, Option, Some, None, refl, sym, ◌∙◌, ap, arith}
 use Rattle.std.specs.{Prelude.{slice_get, nat_lt, nat_le}, List.{list_any, enumerate_from, AllByRecursion}, Option.{is_some, option_map_or}}
-use Rattle.std.proofs.lemmas.{Bool.{true≢false, eq-eqb, eqb-true, lt-ltb, le-leb}, Option.{none-some, same_Some, slice_get_within}}
+use Rattle.std.proofs.lemmas.{Bool.{true≢false, eq-eqb, eqb-true, lt-ltb, le-leb}, Option.{slice_get_within}}
 use Rattle.oc_chains.specs.Lists.{list_of}
 use Rattle.oc_neutral.specs.{declared.section.Section.{Section}, Objects.{Object}}
 use Rattle.oc_neutral.specs.{Elf.Kinds.{carried_types, is_carried_type, elf_tag_type, is_nobits_tag, elf_tag_flags}, KindRules.{has}, Families.{is_many}}
 use Rattle.oc_shelf.proofs.{ReadingLaws.FirstsLemmas.{keyed_from}, ReadingLaws.StageLemmas.{Unbroken, upto_none}}
 use Rattle.oc_shelf.proofs.WritingLaws.MemberLemmas.{keyed_once, of_append, of_filter_map}
-use Rattle.oc_base.specs.{declared.format.Word.{Word}, declared.format.Word.TheVariants.{W32, W64}}
-use Rattle.oc_elf_file.specs.Heads.{Head, NullHead, GroupHead, SectionHead, RelocHead, SymtabHead, ShndxHead, StrtabHead, ShstrtabHead, reloc_head, reloc_heads, table_heads_by, table_heads, heads_of, head_where, section_number, is_symtab_head, is_shndx_head, is_strtab_head, is_shstrtab_head}
+use Rattle.oc_base.specs.declared.format.Word.{Word}
+use Rattle.oc_elf_file.specs.Heads.{Head, NullHead, GroupHead, SectionHead, RelocHead, SymtabHead, ShndxHead, StrtabHead, ShstrtabHead, reloc_head, reloc_heads, table_heads_by, table_heads, heads_of, head_where, section_number, is_symtab_head, is_strtab_head}
 use Rattle.oc_elf_file.specs.{Lines.{lines_of}, Headers.{shdr_of}}
 use Rattle.oc_elf_file.proofs.{HeadLaws.{IsHeadAt, head_at, head_behind, symtab_at, strtab_at, section_at, symtab_only}, FrameLaws.{IsCodable, made_frame}}
 use Rattle.oc_elf_file.proofs.CodedLaws.{IsForElf, many_is, meets_section}
@@ -21,8 +21,7 @@ use Rattle.oc_elf_file.proofs.FlagLaws.{flags_of, alloc, no_link_order, no_tls, 
 use Rattle.oc_elf_file.proofs.{TableLaws.{carried_not, header_is, length-headers, symtab_test, shndx_read}, RelocTableLaws.{table_head}}
 
 pub none_right : (a : Bool) → (a && false) ≡ false
-none_right true = refl
-none_right false = refl
+none_right a = grind arith
 
 -- a carried type is known
 known_carried : (t : ℕ) → is_carried_type t ≡ true → list_any (eqb t) known_types ≡ true
@@ -66,42 +65,19 @@ module _ (class : ElfClass) (n : Object) (is : IsForElf class n) (fits : IsCodab
   no_reloc_table i h here = by (is_many n.format) i here
     where
       by : (b : Bool) (i : ℕ) → slice_get (table_heads_by b) i ≡ Some h → is_reloc h ≡ false
-      by true zero here = ap is_reloc (sym (same_Some SymtabHead h here))
-      by true (suc zero) here = ap is_reloc (sym (same_Some ShndxHead h here))
-      by true (suc (suc zero)) here = ap is_reloc (sym (same_Some StrtabHead h here))
-      by true (suc (suc (suc zero))) here = ap is_reloc (sym (same_Some ShstrtabHead h here))
-      by true (suc (suc (suc (suc i)))) here = absurd (none-some h here)
-      by false zero here = ap is_reloc (sym (same_Some SymtabHead h here))
-      by false (suc zero) here = ap is_reloc (sym (same_Some StrtabHead h here))
-      by false (suc (suc zero)) here = ap is_reloc (sym (same_Some ShstrtabHead h here))
-      by false (suc (suc (suc i))) here = absurd (none-some h here)
+      by b i here = grind arith
 
   one_symtab_table : (i : ℕ) → slice_get (table_heads n) i ≡ Some SymtabHead → i ≡ 0
   one_symtab_table i here = by (is_many n.format) i here
     where
       by : (b : Bool) (i : ℕ) → slice_get (table_heads_by b) i ≡ Some SymtabHead → i ≡ 0
-      by b zero here = refl
-      by true (suc zero) here = absurd (true≢false (ap is_shndx_head (same_Some ShndxHead SymtabHead here)))
-      by true (suc (suc zero)) here = absurd (true≢false (ap is_strtab_head (same_Some StrtabHead SymtabHead here)))
-      by true (suc (suc (suc zero))) here = absurd (true≢false (ap is_shstrtab_head (same_Some ShstrtabHead SymtabHead here)))
-      by true (suc (suc (suc (suc i)))) here = absurd (none-some SymtabHead here)
-      by false (suc zero) here = absurd (true≢false (ap is_strtab_head (same_Some StrtabHead SymtabHead here)))
-      by false (suc (suc zero)) here = absurd (true≢false (ap is_shstrtab_head (same_Some ShstrtabHead SymtabHead here)))
-      by false (suc (suc (suc i))) here = absurd (none-some SymtabHead here)
+      by b i here = grind arith
 
   one_shndx_table : (i : ℕ) → slice_get (table_heads n) i ≡ Some ShndxHead → i ≡ 1
   one_shndx_table i here = by (is_many n.format) i here
     where
       by : (b : Bool) (i : ℕ) → slice_get (table_heads_by b) i ≡ Some ShndxHead → i ≡ 1
-      by true zero here = absurd (true≢false (ap is_symtab_head (same_Some SymtabHead ShndxHead here)))
-      by true (suc zero) here = refl
-      by true (suc (suc zero)) here = absurd (true≢false (ap is_strtab_head (same_Some StrtabHead ShndxHead here)))
-      by true (suc (suc (suc zero))) here = absurd (true≢false (ap is_shstrtab_head (same_Some ShstrtabHead ShndxHead here)))
-      by true (suc (suc (suc (suc i)))) here = absurd (none-some ShndxHead here)
-      by false zero here = absurd (true≢false (ap is_symtab_head (same_Some SymtabHead ShndxHead here)))
-      by false (suc zero) here = absurd (true≢false (ap is_strtab_head (same_Some StrtabHead ShndxHead here)))
-      by false (suc (suc zero)) here = absurd (true≢false (ap is_shstrtab_head (same_Some ShstrtabHead ShndxHead here)))
-      by false (suc (suc (suc i))) here = absurd (none-some ShndxHead here)
+      by b i here = grind arith
 
   no_table_reloc : (h : Head) → is_reloc h ≡ false → (i : ℕ) → slice_get (reloc_heads n) i ≡ Some h → ⊥
   no_table_reloc h none i here =
@@ -109,8 +85,7 @@ module _ (class : ElfClass) (n : Object) (is : IsForElf class n) (fits : IsCodab
       by m.1 (eqb (length (list_of n.relocs m.1.0)) 0) m.3
     where
       by : (x : ℕ × Section) (b : Bool) → cond b None (Some (RelocHead x.0 x.1)) ≡ Some h → ⊥
-      by x true e = none-some h e
-      by x false e = true≢false (ap is_reloc (same_Some (RelocHead x.0 x.1) h e) ∙ none)
+      by x b e = grind arith
 
   -- the number of the symbol table's header
   symtab_place : (i : ℕ) → slice_get (heads_of n) i ≡ Some SymtabHead → i ≡ length n.groups + 1 + length n.sections + length (reloc_heads n)
@@ -171,8 +146,7 @@ module _ (class : ElfClass) (n : Object) (is : IsForElf class n) (fits : IsCodab
       keyed j x y e = by (eqb (length (list_of n.relocs j)) 0) e
         where
           by : (b : Bool) → cond b None (Some (RelocHead j x)) ≡ Some y → reloc_key y ≡ j
-          by true e = absurd (none-some y e)
-          by false e = ap reloc_key (sym (same_Some (RelocHead j x) y e))
+          by b e = grind arith
 
   no_table_before : (i k : ℕ) (s : Section) → slice_get (heads_of n) i ≡ Some (RelocHead k s) → table_among f i (section_number n k) ≡ None
   no_table_before i k s here = by (table_among f i (section_number n k)) refl
@@ -201,8 +175,7 @@ module _ (class : ElfClass) (n : Object) (is : IsForElf class n) (fits : IsCodab
   foreign_not t is = by (word_of class)
     where
       by : (word : Word) → eqb t (foreign_type word) ≡ false
-      by W32 = carried_not t 4 is refl
-      by W64 = carried_not t 9 is refl
+      by word = grind arith
 
   kept : (i : ℕ) (h : Head) → slice_get (heads_of n) i ≡ Some h → is_left_out f (header_at f.headers i) ≡ false
   unfolding shdr_of is_left_out made_frame
@@ -212,12 +185,10 @@ module _ (class : ElfClass) (n : Object) (is : IsForElf class n) (fits : IsCodab
       plain t a b c known = judge false false false (eqb t 8) false (eqb t (foreign_type (word_of class))) (list_any (eqb t) known_types) refl refl refl (ap (λ b. b && true) a) (foreign (word_of class)) known
         where
           foreign : (word : Word) → eqb t (foreign_type word) ≡ false
-          foreign W32 = b
-          foreign W64 = c
+          foreign word = grind arith
 
       table : (word : Word) → ((eqb (reloc_type word) 8 && true) ≡ false) × (eqb (reloc_type word) (foreign_type word) ≡ false) × (list_any (eqb (reloc_type word)) known_types ≡ true)
-      table W32 = (refl, refl, refl)
-      table W64 = (refl, refl, refl)
+      table word = grind arith
 
       by : (h : Head) (at : ℕ) → IsHeadAt n i h → is_left_out f (shdr_of class n at h) ≡ false
       by NullHead at own = plain 0 refl refl refl refl
@@ -229,9 +200,7 @@ module _ (class : ElfClass) (n : Object) (is : IsForElf class n) (fits : IsCodab
           (foreign_not (elf_tag_type s.tag) m.carried) (known_carried (elf_tag_type s.tag) m.carried)
         where
           zeros : (z a : Bool) → is_nobits_tag s.tag ≡ z → (is_nobits_tag s.tag ≡ true → a ≡ true) → (z && not a) ≡ false
-          zeros false a e allocated = refl
-          zeros true true e allocated = refl
-          zeros true false e allocated = absurd (true≢false (sym (allocated e)))
+          zeros z a e allocated = grind arith
       by (RelocHead k s) at own =
           judge (has (table_flags s) 0x400) (has (table_flags s) 0x800) (has (table_flags s) 0x80) (eqb (reloc_type (word_of class)) 8) (has (table_flags s) 2) (eqb (reloc_type (word_of class)) (foreign_type (word_of class))) (list_any (eqb (reloc_type (word_of class))) known_types)
           (table_no_tls s) (table_no_compressed s) (table_no_link_order s) (ap (λ b. eqb (reloc_type (word_of class)) 8 && not b) (table_no_alloc s) ∙ (table (word_of class)).0) (table (word_of class)).1 (table (word_of class)).2
@@ -246,15 +215,13 @@ module _ (class : ElfClass) (n : Object) (is : IsForElf class n) (fits : IsCodab
   whole_syms m = by (word_of class)
     where
       by : (word : Word) → (eqb (sym_size word) (sym_size word) && eqb (sym_size word * m % sym_size word) 0) ≡ true
-      by W32 = let e : 16 * m % 16 ≡ 0 = omega arith in eq-eqb (16 * m % 16) 0 e
-      by W64 = let e : 24 * m % 24 ≡ 0 = omega arith in eq-eqb (24 * m % 24) 0 e
+      by word = grind arith
 
   whole_rels : (m : ℕ) → (eqb (rel_size (word_of class)) (rel_size (word_of class)) && eqb (rel_size (word_of class) * m % rel_size (word_of class)) 0) ≡ true
   whole_rels m = by (word_of class)
     where
       by : (word : Word) → (eqb (rel_size word) (rel_size word) && eqb (rel_size word * m % rel_size word) 0) ≡ true
-      by W32 = let e : 8 * m % 8 ≡ 0 = omega arith in eq-eqb (8 * m % 8) 0 e
-      by W64 = let e : 24 * m % 24 ≡ 0 = omega arith in eq-eqb (24 * m % 24) 0 e
+      by word = grind arith
 
   strings_type : is_type SHT_STRTAB (header_at f.headers (head_where n is_strtab_head)) ≡ true
   unfolding shdr_of
@@ -301,16 +268,14 @@ module _ (class : ElfClass) (n : Object) (is : IsForElf class n) (fits : IsCodab
       ∙ number
     where
       counted : (word : Word) → sym_size word * length (lines_of n) / sym_size word ≡ length (lines_of n)
-      counted W32 = omega arith
-      counted W64 = omega arith
+      counted word = grind arith
 
   -- a type that is not that of the word's relocation tables
   other_type : (t : ℕ) → eqb t 9 ≡ false → eqb t 4 ≡ false → eqb t (reloc_type (word_of class)) ≡ false
   other_type t a b = by (word_of class)
     where
       by : (word : Word) → eqb t (reloc_type word) ≡ false
-      by W32 = a
-      by W64 = b
+      by word = grind arith
 
   pub table_clean : (i place : ℕ) (h : Head) → slice_get (heads_of n) i ≡ Some h → Unbroken (table_conditions f i place (header_at f.headers i))
   unfolding shdr_of table_conditions made_frame
@@ -347,8 +312,7 @@ module _ (class : ElfClass) (n : Object) (is : IsForElf class n) (fits : IsCodab
       )
         where
           no_symtab : (word : Word) → (eqb (reloc_type word) 2 ≡ false) × (eqb (reloc_type word) 18 ≡ false)
-          no_symtab W32 = (refl, refl)
-          no_symtab W64 = (refl, refl)
+          no_symtab word = grind arith
       by SymtabHead at here own =
           (ap not (symtab_good i at here), ap (λ t. t && not (is_good_table f i (shdr_of class n at SymtabHead))) (other_type 2 refl refl), refl)
       by ShndxHead at here own = (refl, ap (λ t. t && not (is_good_table f i (shdr_of class n at ShndxHead))) (other_type 18 refl refl), ap not (shndx_good i at here))

@@ -6,9 +6,9 @@ use Rattle.oc_elf.specs.{declared.ehdr.Ehdr.{Ehdr}, Classes.{machine_of, is_big,
 use Rattle.oc_elf.specs.{declared.constants.TheConstants.{FIRST_EXTENDED}, Structures.{ehdr_bytes, shdr_bytes, sym_bytes, index_bytes, rel_bytes}}
 use Rattle.oc_shelf.specs.Writing.Parts.{joined, place_where}
 use Rattle.oc_elf_file.specs.Heads.{Head, NullHead, GroupHead, SectionHead, RelocHead, SymtabHead, ShndxHead, StrtabHead, ShstrtabHead, heads_of, head_where, is_shstrtab_head}
+use Rattle.oc_elf_file.specs.Symbols.{line_entry}
 use Rattle.oc_elf_file.specs.{Lines.{Line, lines_of, numbered_lines}, Groups.{group_words, group_bytes}, Bodies.{raw_of, rels_of}}
 use Rattle.oc_elf_file.specs.{Layout.{Part, FileHead, Body, HeadTable, head_names, line_names, strings_of, laid_parts, is_head_table}, Headers.{stored_headers}}
-use Rattle.oc_elf_file.specs.Symbols.{line_entry}
 
 -- how many headers there are, by the file header: where sections are many, header 0 has the number
 abbrev pub shown_count : ElfClass → ℕ → ℕ

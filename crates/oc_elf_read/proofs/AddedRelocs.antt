@@ -2,16 +2,15 @@
 use Rattle.std.proofs.Common.{◌≡◌, ℕ, ◌+◌, ◌<◌, ◌≤◌, Bool, true, false, cond, List, [], ◌∷◌, Some, refl, sym, ◌∙◌, ap, subst, arith}
 use Rattle.std.specs.{Prelude.{◌&&◌, ◌||◌, not, nat_eq}, List.{AllByRecursion}, Option.{option_map, option_and_then}}
 use Rattle.std.proofs.lemmas.{Bool.{true≢false}, List.{length-map}, Option.{none-some, same_Some, slice_get-map, slice_get_within}}
-use Rattle.oc_linking.specs.{declared.terms.Binding.{Binding}, declared.terms.Binding.TheVariants.{Local, Global, Undefined, Common, Weak}}
-use Rattle.oc_linking.specs.{declared.terms.Keep.{Keep}, declared.terms.Kind.{Kind}}
-use Rattle.oc_linking.specs.{declared.terms.Kind.TheVariants.{Code, ReadOnly, Data, Zero, Init, Fini, Debug, Exception, Note}, Fits.{bytes_of}}
+use Rattle.oc_linking.specs.{declared.terms.Binding.{Binding}, declared.terms.Binding.TheVariants.{Local}, declared.terms.Keep.{Keep}}
+use Rattle.oc_linking.specs.{declared.terms.Kind.{Kind}, declared.terms.Kind.TheVariants.{Code, ReadOnly, Data, Zero, Init, Fini, Debug, Exception, Note}}
+use Rattle.oc_linking.specs.Fits.{bytes_of}
 use Rattle.oc_linking.specs.declared.terms.Value.TheVariants as value
 use Rattle.oc_linking.specs.Parts as parts
 use Rattle.oc_neutral.specs.declared.elf.TheConstants.{SHT_NOTE, SHT_NOBITS, SHT_INIT_ARRAY, SHT_FINI_ARRAY, SHT_X86_64_UNWIND, SHF_WRITE, SHF_ALLOC, SHF_EXECINSTR}
 use Rattle.oc_neutral.specs.{declared.reloc.Target.{Target}, declared.symbol.Symbol.{Symbol}, Building.{Draft, is_zero}}
 use Rattle.oc_neutral.specs.{Elf.Kinds.{elf_kind, is_debug_name, is_unwind_name}, Invariants.{CanAdd, IsLessThere, IsTargetThere}, KindRules.{first_rule, has}}
-use Rattle.oc_neutral.specs.Normal.{Place, local_place, place_among}
-use Rattle.oc_neutral.specs.Rows.{Row, Taken, TakesZero, TakesPlace, TakesGotBase, TakesImageBase, TakesHome, TakesSection, less_of, same_taken}
+use Rattle.oc_neutral.specs.{Normal.{Place, local_place, place_among}, Rows.{Row, Taken, TakesSection, less_of, same_taken}}
 use Rattle.oc_neutral.specs.declared.reloc.Target.TheVariants as target
 use Rattle.oc_shows.specs.{Built.{IsStarted}, Computed.{computed_symbol, placed_binding}, Started.{stored_section}}
 use Rattle.oc_elf_read.specs.{Built.{keys_of, symboled}, Given.{given_at}}
@@ -30,8 +29,7 @@ not_zero [] otherwise all last = last
 not_zero (r ∷ rules) otherwise all last = by r.0 refl (not_zero rules otherwise all.1 last)
   where
     by : (b : Bool) → r.0 ≡ b → is_zero (first_rule rules otherwise) ≡ false → is_zero (cond b r.1 (first_rule rules otherwise)) ≡ false
-    by true e rest = all.0 e
-    by false e rest = rest
+    by b e rest = grind arith
 
 stored_kind : (name : List ℕ) (type flags : ℕ) → nat_eq type SHT_NOBITS ≡ false → is_zero (elf_kind name type flags) ≡ false
 unfolding elf_kind
@@ -55,12 +53,7 @@ size_here f frame s x m = ap (λ (y : parts.Section). y.size) (sym m.is)
 
 -- a Local's place, in a binding as it is stored
 stored_place : (all : List parts.Symbol) (b : Binding) (place : Place) → local_place (placed_binding all b) ≡ Some place → b ≡ Local (value.Place place.0 place.1)
-stored_place all (Local (value.Place k offset)) place e = ap (λ (q : Place). Local (value.Place q.0 q.1)) (same_Some (k, offset) place e)
-stored_place all (Local (value.Absolute n)) place e = absurd (none-some place e)
-stored_place all (Global v) place e = absurd (none-some place e)
-stored_place all Undefined place e = absurd (none-some place e)
-stored_place all (Common size align) place e = absurd (none-some place e)
-stored_place all (Weak g) place e = absurd (none-some place e)
+stored_place all b place e = grind arith
 
 module _ (f : FileFrame) (keep : Keep) (frame : IsFrame f) (clean : IsClean f keep) (started : IsStarted (elf_dialect f.class) f.file keep (symboled f (symbol_count f))) where
   abbrev base : Draft
@@ -89,12 +82,7 @@ module _ (f : FileFrame) (keep : Keep) (frame : IsFrame f) (clean : IsClean f ke
   less_there row is = by row.taken is.alone
     where
       by : (t : Taken) → same_taken t TakesSection ≡ false → IsLessThere base.object (less_of t 0)
-      by TakesZero e = tt
-      by TakesPlace e = tt
-      by TakesGotBase e = tt
-      by TakesImageBase e = tt
-      by TakesHome e = tt
-      by TakesSection e = absurd (true≢false e)
+      by t e = grind arith
 
   -- a relocation can be added before any other
   can_base : (s at : ℕ) (m : Standing s at) → CanAdd base.object s at m.meant.reloc

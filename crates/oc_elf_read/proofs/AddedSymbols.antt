@@ -2,7 +2,7 @@
 use Rattle.std.proofs.Common.{◌≡◌, ℕ, ◌+◌, ◌<◌, Bool, true, false, cond, eqb, List, [], ◌∷◌, map, Option, None, Some, Ok, refl, sym, ◌∙◌, ap, arith}
 use Rattle.std.specs.{Prelude.{◌||◌, nat_eq, is_some, slice_get}, Option.{option_flatten, option_map}}
 use Rattle.std.proofs.lemmas.{Bool.{true≢false}, List.{map-append}, List.FromFn.{length-map-range_with_len, get_or-map-range_with_len}}
-use Rattle.std.proofs.lemmas.Option.{none-some, same_Some, slice_get-get_or}
+use Rattle.std.proofs.lemmas.Option.{same_Some, slice_get-get_or}
 use Rattle.oc_linking.specs.{declared.terms.Binding.{Binding}, declared.terms.Binding.TheVariants.{Local, Global, Undefined, Common, Weak}}
 use Rattle.oc_linking.specs.{declared.terms.Value.{Value}, FirstFault.{fault_of, stage_fault}, Parts.{is_local}}
 use Rattle.oc_linking.specs.declared.terms.Fallback.TheVariants as fallback
@@ -14,8 +14,7 @@ use Rattle.oc_strings.specs.Repeats.{name_at, repeat_at}
 use Rattle.oc_shows.proofs.{BuiltSteps.{name_is_new}, StartedLaws.{symbol_more}}
 use Rattle.oc_shelf.specs.Reading.Collected.{collected}
 use Rattle.oc_shelf.proofs.{ReadingLaws.CollectedLemmas.{IsFrom, collected-some, collected-from}, ReadingLaws.StageLemmas.{clean_at}}
-use Rattle.oc_elf.specs.{declared.constants.TheConstants.{SHN_UNDEF, SHN_COMMON, STB_WEAK}, declared.sym.Sym.{Sym}, Sym.{bind_of}}
-use Rattle.oc_elf.specs.CarriedSections.{sections_of}
+use Rattle.oc_elf.specs.{declared.constants.TheConstants.{STB_WEAK}, declared.sym.Sym.{Sym}, Sym.{bind_of}, CarriedSections.{sections_of}}
 use Rattle.oc_elf.specs.CarriedSymbols.{binding_of, defined_as, is_passed, public_binding, symbol_by, symbol_of, symbol_with, symbols_of, value_of}
 use Rattle.oc_elf.specs.{Classes.{format_of}, Entries.{is_local_entry, name_of}, Frames.{FileFrame}, SymbolRules.{public_name, public_names, symbol_stage}}
 use Rattle.oc_elf.specs.Tables.{entry_of, symbol_count}
@@ -40,22 +39,19 @@ binding_plain f s all b is = by (is_local_entry s) refl is
     defined bind (value.Absolute n) = (refl, refl)
 
     mapped : (l : Bool) (g : Value → Binding) (o : Option Value) → ((v : Value) → (placed_binding all (g v) ≡ g v) × (is_local (g v) ≡ l)) → option_map g o ≡ Some b → (placed_binding all b ≡ b) × (is_local b ≡ l)
-    mapped l g None each e = absurd (none-some b e)
-    mapped l g (Some v) each e = let same : g v ≡ b = same_Some (g v) b e in rw (sym same) (each v)
+    mapped l g o each e = grind arith
 
     public : (u c : Bool) → cond u (Some (cond (nat_eq (bind_of s) STB_WEAK) (Weak fallback.Zero) Undefined)) (cond c (Some (Common s.st_size s.st_value)) (option_map (defined_as (bind_of s)) (value_of f s))) ≡ Some b
         → (placed_binding all b ≡ b) × (is_local b ≡ false)
     public true c e = zero (nat_eq (bind_of s) STB_WEAK) e
       where
         zero : (w : Bool) → Some (cond w (Weak fallback.Zero) Undefined) ≡ Some b → (placed_binding all b ≡ b) × (is_local b ≡ false)
-        zero true h = let same : Weak fallback.Zero ≡ b = same_Some (Weak fallback.Zero) b h in rw (sym same) (refl, refl)
-        zero false h = let same : Undefined ≡ b = same_Some Undefined b h in rw (sym same) (refl, refl)
+        zero w h = grind arith
     public false true e = let same : Common s.st_size s.st_value ≡ b = same_Some (Common s.st_size s.st_value) b e in rw (sym same) (refl, refl)
     public false false e = mapped false (defined_as (bind_of s)) (value_of f s) (defined (bind_of s)) e
 
     by : (l : Bool) → is_local_entry s ≡ l → cond l (option_map (λ v. Local v) (value_of f s)) (public_binding f s) ≡ Some b → IsPlain all s b
-    by true h e = let m = mapped true (λ v. Local v) (value_of f s) (λ v. (refl, refl)) e in record { placed = m.0; local = m.1 ∙ sym h }
-    by false h e = let m = public (nat_eq s.st_shndx SHN_UNDEF) (nat_eq s.st_shndx SHN_COMMON) e in record { placed = m.0; local = m.1 ∙ sym h }
+    by l h e = grind arith
 
 -- ... carried symbols
 
@@ -71,10 +67,7 @@ unfolding symbol_of symbol_by
 entered f k x e = by (eqb k 0) (is_passed f (entry_of f k)) (binding_of f (entry_of f k)) refl refl e
   where
     by : (z p : Bool) (o : Option Binding) → eqb k 0 ≡ z → binding_of f (entry_of f k) ≡ o → cond z None (cond p None (option_map (symbol_with f k (entry_of f k)) o)) ≡ Some x → IsEntered f k x
-    by true p o h g e = absurd (none-some x e)
-    by false true o h g e = absurd (none-some x e)
-    by false false None h g e = absurd (none-some x e)
-    by false false (Some b) h g e = record { some = h; binding = b; bound = g; is = same_Some (symbol_with f k (entry_of f k) b) x e }
+    by z p o h g e = grind arith
 
 -- the binding of an entry that is carried
 abbrev pub carried_binding : FileFrame → Sym → Option Binding
@@ -85,8 +78,7 @@ unfolding symbol_of symbol_by
 symbol_some f k b some is = rw some (by (is_passed f (entry_of f k)) (binding_of f (entry_of f k)) is)
   where
     by : (p : Bool) (o : Option Binding) → cond p None o ≡ Some b → cond p None (option_map (symbol_with f k (entry_of f k)) o) ≡ Some (symbol_with f k (entry_of f k) b)
-    by true o e = absurd (none-some b e)
-    by false o e = ap (option_map (symbol_with f k (entry_of f k))) e
+    by p o e = grind arith
 
 -- ... names
 
@@ -119,8 +111,7 @@ module _ (f : FileFrame) (clean : stage_fault (symbol_stage f) ≡ None) (k : �
     own = let m = entered f k y here in binding_plain f (entry_of f k) (symbols_of f) b (bound (is_passed f (entry_of f k)) is)
       where
         bound : (p : Bool) → cond p None (binding_of f (entry_of f k)) ≡ Some b → binding_of f (entry_of f k) ≡ Some b
-        bound true e = absurd (none-some b e)
-        bound false e = e
+        bound p e = grind arith
 
     as_computed : symbol_as y ≡ computed_symbol (symbols_of f) y
     unfolding symbol_with
@@ -131,8 +122,7 @@ module _ (f : FileFrame) (clean : stage_fault (symbol_stage f) ≡ None) (k : �
     is_new = name_is_new (symbols_of f) (collected (symbol_of f) k) y each
       where
         none_is : {X : Type 0} (o : Option X) → is_some o ≡ false → o ≡ None
-        none_is None h = refl
-        none_is (Some x) h = absurd (true≢false h)
+        none_is o h = grind arith
 
         new : repeat_at (public_names f) k ≡ None
         new = none_is (repeat_at (public_names f) k) (no_repeat f k some (clean_at (fault_of (symbol_stage f)) (symbol_count f) k clean low))

@@ -128,11 +128,7 @@ module _ (f : FileFrame) (keep : Keep) (frame : IsFrame f) where
               ∙ ap (λ (j : ℕ). is_kept_section f keep j) k ∙ left
 
           both : (a b c : Bool) → c ≡ false → cond a (cond c (option_and_then (reloc_by f y.contents) (rel_at f y.number x)) None) None ≡ cond b (cond c (option_and_then (reloc_by f y.contents) (rel_at f y.number x)) None) None
-          both a b true e = absurd (true≢false e)
-          both true true false e = refl
-          both true false false e = refl
-          both false true false e = refl
-          both false false false e = refl
+          both a b c e = grind arith
 
 -- ... entries
 

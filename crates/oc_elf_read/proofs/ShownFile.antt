@@ -3,14 +3,13 @@ use Rattle.std.proofs.Common.{◌≡◌, ℕ, Bool, true, false, Option, None, S
 use Rattle.std.specs.{Prelude.{◌&&◌, ◌||◌, slice_get}, Option.{option_map, option_map_or}}
 use Rattle.std.proofs.lemmas.{Bool.{true≢false, and_parts}, Option.{same_Some, slice_get-map, slice_get_within, slice_get-get_or}}
 use Rattle.oc_linking.specs.{declared.terms.Base.{Base}, declared.terms.Hint.TheVariants.{Plain, Call}, declared.terms.Keep.{Keep}}
-use Rattle.oc_linking.specs.{declared.terms.Width.{Width}, declared.terms.Width.TheVariants.{One, Two, Four, Eight}}
+use Rattle.oc_linking.specs.{declared.terms.Width.{Width}, declared.terms.Width.TheVariants.{Four}}
 use Rattle.oc_linking.specs.declared.terms.Base.TheVariants as base
 use Rattle.oc_linking.specs.declared.terms.Less.TheVariants as less
 use Rattle.oc_linking.specs.Parts as parts
 use Rattle.oc_neutral.specs.{declared.elf.TheConstants.{SHT_NOBITS}, declared.reloc.Reloc.{Reloc}, declared.reloc.Target.{Target}}
 use Rattle.oc_neutral.specs.{declared.section.Section.{Section}, declared.symbol.Symbol.{Symbol}, Elf.Kinds.{elf_tag, is_nobits_tag}, Faces.{number_of}}
-use Rattle.oc_neutral.specs.Invariants.{IsHinted, NamesOriginal}
-use Rattle.oc_neutral.specs.Rows.{Row, Taken, TakesZero, TakesPlace, TakesGotBase, TakesImageBase, TakesHome, TakesSection, less_of, same_base, same_hint, same_taken, same_width}
+use Rattle.oc_neutral.specs.{Invariants.{IsHinted, NamesOriginal}, Rows.{Row, Taken, TakesPlace, less_of, same_base, same_hint, same_taken, same_width}}
 use Rattle.oc_neutral.specs.declared.reloc.Target.TheVariants as target
 use Rattle.oc_shows.specs.{Built.{IsStarted}, Computed.{computed_symbol}, Finished.{AreFinal, LeavesBlanks}, Shows.{AreNumbered}, Started.{stored_section}}
 use Rattle.oc_shows.proofs.BuiltLaws.{built_shows}
@@ -44,28 +43,16 @@ call_row row is hint =
     record { base = of_base row.base inner.0; less = of_taken row.taken inner.1; width = of_width row.width outer.1 }
   where
     called : (a b : Bool) → a ≡ false → (a || b) ≡ true → b ≡ true
-    called false b e h = h
-    called true b e h = absurd (true≢false e)
+    called a b e h = grind arith
 
     of_base : (b : Base) → same_base b base.Address ≡ true → b ≡ base.Address
-    of_base base.Address e = refl
-    of_base base.Slot e = absurd (true≢false (sym e))
-    of_base base.GotBase e = absurd (true≢false (sym e))
-    of_base base.HomeNumber e = absurd (true≢false (sym e))
+    of_base b e = grind arith
 
     of_taken : (t : Taken) → same_taken t TakesPlace ≡ true → less_of t 0 ≡ less.Place
-    of_taken TakesPlace e = refl
-    of_taken TakesZero e = absurd (true≢false (sym e))
-    of_taken TakesGotBase e = absurd (true≢false (sym e))
-    of_taken TakesImageBase e = absurd (true≢false (sym e))
-    of_taken TakesHome e = absurd (true≢false (sym e))
-    of_taken TakesSection e = absurd (true≢false (sym e))
+    of_taken t e = grind arith
 
     of_width : (w : Width) → same_width w Four ≡ true → w ≡ Four
-    of_width Four e = refl
-    of_width One e = absurd (true≢false (sym e))
-    of_width Two e = absurd (true≢false (sym e))
-    of_width Eight e = absurd (true≢false (sym e))
+    of_width w e = grind arith
 
 module _ (f : FileFrame) (keep : Keep) (frame : IsFrame f) (clean : IsClean f keep) (started : IsStarted (elf_dialect f.class) f.file keep (symboled f (symbol_count f))) where
   standing : (s at : ℕ) (r : Reloc) → given_at f keep s at ≡ Some r → Standing f keep frame clean started s at

@@ -6,7 +6,7 @@ use Rattle.oc_linking.specs.{declared.terms.Keep.{Keep}, declared.terms.Width.{W
 use Rattle.oc_linking.specs.declared.terms.Less.TheVariants as less
 use Rattle.oc_linking.specs.Parts as parts
 use Rattle.oc_neutral.specs.{declared.reloc.Reloc.{Reloc}, Dialects.{kept_fields}, Faces.{shown_symbols}, Objects.{Object}}
-use Rattle.oc_neutral.specs.Rows.{Row, Taken, TakesZero, TakesPlace, TakesGotBase, TakesImageBase, TakesHome, TakesSection, less_of, same_taken}
+use Rattle.oc_neutral.specs.Rows.{Row, Taken, TakesSection, less_of, same_taken}
 use Rattle.oc_shows.specs.Built.{AreApart, AreOfFile, DifferencesFit, IsField, IsFree, IsGiven}
 use Rattle.oc_elf.specs.{declared.rel.Rel.{Rel}, CarriedSections.{sections_of}, Elf.{elf_dialect}, Fields.{field_by, is_idle, rel_at, row_for, width_of}}
 use Rattle.oc_elf.specs.{Frames.{FileFrame}, Laid.{IsFrame}, RelocRules.{entry_fault}, Sections.{kind_of}, Tables.{reloc_count, reloc_of}}
@@ -22,12 +22,7 @@ no_section : (row : Row) (k : ℕ) → IsRow row → less_of row.taken 0 ≡ les
 no_section row k is e = by row.taken is.alone e
   where
     by : (t : Taken) → same_taken t TakesSection ≡ false → less_of t 0 ≡ less.Section k → ⊥
-    by TakesZero n e = absurd (cc)
-    by TakesPlace n e = absurd (cc)
-    by TakesGotBase n e = absurd (cc)
-    by TakesImageBase n e = absurd (cc)
-    by TakesHome n e = absurd (cc)
-    by TakesSection n e = true≢false n
+    by t n e = grind arith
 
 -- the width of a field is that of its row
 row_width : (f : FileFrame) (r : Rel) (row : Row) → row_for f r ≡ Some row → width_of f r ≡ bytes_of row.width

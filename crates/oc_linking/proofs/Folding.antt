@@ -47,9 +47,7 @@ module _ (o : ℕ → Option Patch) (folded : ℕ → Bool) where
 
   -- over what stands under it
   over : (a b c : Option ℕ) (x : ℕ) → One a b c → unwrap_or b (unwrap_or c x) ≡ unwrap_or a x
-  over a b c x Nothing = refl
-  over a b c x (Folded j) = refl
-  over a b c x (Live j k) = refl
+  over a b c x y = grind arith
 
   -- of one section
   pub overlay_folded : Apart o → (i : ℕ) (xs : List ℕ)

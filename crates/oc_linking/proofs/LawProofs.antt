@@ -11,13 +11,11 @@ use Rattle.oc_linking.proofs.Valid.{zeros_is}
 
 -- a test that is denied
 pub not-true : (b : Bool) → not b ≡ true → b ≡ false
-not-true true e = absurd (true≢false (sym e))
-not-true false e = refl
+not-true b e = grind arith
 
 -- a field that overflows is there, and does not fit
 overflow_from : (w : Word) (o : Option Patch) → unwrap_or (option_map (overflows w) o) false ≡ true → (q : Patch) × (o ≡ Some q) × (fits w q.width q.check q.residue ≡ false)
-overflow_from w None e = absurd (true≢false (sym e))
-overflow_from w (Some q) e = (q, refl, not-true (fits w q.width q.check q.residue) e)
+overflow_from w o e = grind arith
 
 module _ (w : Word) (contents : List (List ℕ)) (patches : Patches) where
   -- what the search finds fails
@@ -61,8 +59,7 @@ exports_of (Image images exported) name = exported name
 
 -- an overflow was found
 overflow_found : (k : Option (ℕ × ℕ)) (images : List (List ℕ)) (exported : Exports) (s at : ℕ) → linked_by k images exported ≡ Overflow s at → k ≡ Some (s, at)
-overflow_found None images exported s at e = absurd (true≢false (ap is_image e))
-overflow_found (Some k) images exported s at e = ap (λ i. Some (i, k.1)) (ap section_of e) ∙ ap (λ x. Some (s, x)) (ap offset_of e)
+overflow_found k images exported s at e = grind arith
 
 -- where there is an image, nothing was found
 image_found : (k : Option (ℕ × ℕ)) (images given : List (List ℕ)) (exported shown : Exports) → linked_by k given exported ≡ Image images shown

@@ -4,8 +4,8 @@ use Rattle.std.specs.{Prelude.{nat_le}, Option.{option_and_then, unwrap_or}}
 use Rattle.std.proofs.Math.Nat.{pow-suc, div-div-eq-div-mul}
 use Rattle.std.proofs.lemmas.{Bool.{cases_eq, le-leb, lt-ltb}, Option.{none-some}}
 use Rattle.oc_base.specs.Numbers.{number_at}
-use Rattle.oc_linking.specs.{declared.terms.Width.{Width}, declared.terms.Width.TheVariants.{One, Two, Four, Eight}, declared.terms.Patch.{Patch}}
-use Rattle.oc_linking.specs.{Numbers.{or_else, first_upto}, Fits.{bytes_of, span, stored}, Images.{byte_by, byte_upto, overlay}, Shows.{Apart}}
+use Rattle.oc_linking.specs.{declared.terms.Width.{Width}, declared.terms.Patch.{Patch}, Numbers.{or_else, first_upto}, Fits.{bytes_of, span, stored}}
+use Rattle.oc_linking.specs.{Images.{byte_by, byte_upto, overlay}, Shows.{Apart}}
 use Rattle.oc_linking.proofs.{Upto.{first_upto_from}, Apart.{byte_from, same_start}, Bytes.{mod-byte}}
 
 -- of items of which one is there, that one is the first
@@ -44,10 +44,7 @@ byte_of_image o i xs l = let e : 0 + i ≡ i = omega arith in get_or-overlay o 0
 
 -- a field has 8 bytes at most
 pub few : (width : Width) → bytes_of width ≤ 8
-few One = omega arith
-few Two = omega arith
-few Four = omega arith
-few Eight = omega arith
+few width = grind arith
 
 -- what a field gives at one of its bytes
 pub byte_of_field : (o : ℕ → Option Patch) (at back : ℕ) (q : Patch) → o at ≡ Some q → back < bytes_of q.width → byte_by o (at + back) back ≡ Some (q.residue / 256 ^ back % 256)
@@ -85,10 +82,7 @@ number_of_bytes ys r (suc k) at j each =
 
 -- as many bytes as a field has hold a number of its bits
 span_of : (width : Width) → 256 ^ bytes_of width ≡ span width
-span_of One = refl
-span_of Two = refl
-span_of Four = refl
-span_of Eight = refl
+span_of width = grind arith
 
 -- the bytes of a field hold its residue
 pub field_holds : (o : ℕ → Option Patch) → Apart o → (xs : List ℕ) (at : ℕ) (q : Patch) → o at ≡ Some q → at + bytes_of q.width ≤ length xs

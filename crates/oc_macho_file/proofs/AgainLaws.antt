@@ -1,5 +1,5 @@
 -- A file in which an object is read again shows it, also where what is taken of a field's own section is the section, and not the field's place.
-use Rattle.std.proofs.Common.{◌≡◌, ℕ, Bool, true, false, cond, List, map, Option, Some, None, refl, sym, ◌∙◌, ap, subst}
+use Rattle.std.proofs.Common.{◌≡◌, ℕ, Bool, false, cond, List, map, Option, Some, None, refl, ◌∙◌, ap, subst, arith}
 use mathlib.Core.Path.{fun_ext}
 use Rattle.std.specs.Option.{option_map, option_map_or}
 use Rattle.oc_linking.specs.declared.terms.Base.TheVariants as base
@@ -12,7 +12,6 @@ use Rattle.oc_shows.specs.{Again.{IsReadAgain}, Shows.{Shows}}
 use Rattle.oc_neutral.specs.Dialects.{Dialect, target_by, is_difference, is_kept, kept_fields, is_folded, look_of, less_in, looks_in, patches_in}
 use Rattle.oc_neutral.specs.{Invariants.{IsObject}, Normal.{cancels, takes_section}, Objects.{Object}}
 use Rattle.oc_shows.proofs.AgainLaws.{read_again_shows}
-use Rattle.oc_neutral.proofs.NormalLemmas.{cancels-place}
 
 -- a field of section s, from which its own section is taken as its place
 abbrev pub placed_field : ℕ → Field → Field
@@ -42,30 +41,26 @@ module _ (g : Dialect) (c : List ℕ) (n : Object) (fine : IsObject n) (is : IsR
   kept_placed s at = by (is_kept g c all s)
     where
       by : (b : Bool) → cond b (option_map (placed_field s) (g.rules.fields c all s at)) None ≡ option_map (placed_field s) (cond b (g.rules.fields c all s at) None)
-      by true = refl
-      by false = refl
+      by b = grind arith
 
   still_varies : (s : ℕ) (f : Field) → is_difference f ≡ false → is_difference (placed_field s f) ≡ false
   still_varies s f e = by (takes_section s f.less)
     where
       by : (b : Bool) → cancels f.base (target_by f.target) (cond b less.Place f.less) ≡ false
-      by true = cancels-place f.base (target_by f.target)
-      by false = e
+      by b = grind arith
 
   same_look : (s : ℕ) (f : Field) → look_of s (placed_field s f) ≡ look_of s f
   same_look s f = ap (λ l. record { base = f.base; less = l; width = f.width; check = f.check; target = f.target; hint = f.hint }) (by (takes_section s f.less) refl)
     where
       by : (b : Bool) → takes_section s f.less ≡ b → cond (takes_section s (cond b less.Place f.less)) less.Place (cond b less.Place f.less) ≡ cond b less.Place f.less
-      by true e = refl
-      by false e = ap (λ b. cond b less.Place f.less) e
+      by b e = grind arith
 
   same_folded : (s at : ℕ) → is_folded h c all s at ≡ is_folded g c all s at
   unfolding is_folded
   same_folded s at = ap (λ o. option_map_or is_difference o false) (kept_placed s at) ∙ by (kept_fields g c all s at) refl
     where
       by : (o : Option Field) → kept_fields g c all s at ≡ o → option_map_or is_difference (option_map (placed_field s) o) false ≡ option_map_or is_difference o false
-      by None e = refl
-      by (Some f) e = still_varies s f (varies s at f e) ∙ sym (varies s at f e)
+      by o e = grind arith
 
   same_looks : (s at : ℕ) → looks_in h c all s at ≡ looks_in g c all s at
   unfolding looks_in
@@ -75,16 +70,14 @@ module _ (g : Dialect) (c : List ℕ) (n : Object) (fine : IsObject n) (is : IsR
       ∙ ap (λ o. cond (is_folded g c all s at) None o) (by (kept_fields g c all s at))
     where
       by : (o : Option Field) → option_map (look_of s) (option_map (placed_field s) o) ≡ option_map (look_of s) o
-      by None = refl
-      by (Some f) = ap Some (same_look s f)
+      by o = grind arith
 
   same_patches : (p : Placement) (v : Valuation) (s at : ℕ) → patches_in h c all p v s at ≡ patches_in g c all p v s at
   unfolding patches_in
   same_patches p v s at = ap (option_map (patch_of p v)) (kept_placed s at) ∙ by (kept_fields g c all s at)
     where
       by : (o : Option Field) → option_map (patch_of p v) (option_map (placed_field s) o) ≡ option_map (patch_of p v) o
-      by None = refl
-      by (Some f) = refl
+      by o = grind arith
 
   pub placed_shows : Shows g c all n
   placed_shows =

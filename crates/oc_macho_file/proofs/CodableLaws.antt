@@ -4,7 +4,7 @@ use Rattle.std.specs.{Prelude.{slice_get, flat_map}, Option.{option_map_or}}
 use Rattle.std.proofs.lemmas.{Bool.{true≢false}, Option.{none-some, same_Some}}
 use Rattle.oc_base.specs.{declared.format.Word.{Word}, declared.format.Word.TheVariants.{W32, W64}}
 use Rattle.oc_chains.specs.Lists.{list_of}
-use Rattle.oc_linking.specs.{declared.terms.Width.{Width}, declared.terms.Width.TheVariants.{One, Two, Four, Eight}}
+use Rattle.oc_linking.specs.declared.terms.Width.{Width}
 use Rattle.oc_neutral.specs.{declared.reloc.Reloc.{Reloc}, declared.reloc.Target.{Target}, Invariants.{IsThere}, Mach.Relocs.{MachRow, length_of}}
 use Rattle.oc_neutral.specs.{Normal.{Place}, Objects.{Object, reloc_at}, Rows.{TakesPlace, same_taken}}
 use Rattle.oc_neutral.specs.declared.reloc.Target.TheVariants as target
@@ -36,14 +36,10 @@ ones_end p [] = omega arith
 ones_end p (x ∷ xs) = let rest = ones_end (p + 1) xs in omega (arith, rest)
 
 length_low : (v : Width) → length_of v < 4
-length_low One = omega arith
-length_low Two = omega arith
-length_low Four = omega arith
-length_low Eight = omega arith
+length_low v = grind arith
 
 flag_low : (b : Bool) → cond b 1 0 < 2
-flag_low true = omega arith
-flag_low false = omega arith
+flag_low b = grind arith
 
 module _ (w : Word) (n : Object) (is : IsForMach w n) (small : length (mach_file w n) < 2 ^ 32) (few : length (lines_of w n) < 2 ^ 24) where
   -- ... numbers and addresses

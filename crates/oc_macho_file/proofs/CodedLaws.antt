@@ -2,7 +2,7 @@
 use Rattle.std.proofs.Common.{◌≡◌, ℕ, zero, suc, ◌+◌, ◌*◌, ◌^◌, ◌<◌, ◌≤◌, ◌⊎◌, inl, inr, Bool, true, false, cond, eqb, List, [], ◌∷◌, length, Option, Some, None, refl, sym, ◌∙◌, ap, subst, arith}
 use Rattle.std.specs.{Prelude.{◌≢◌, slice_get}, Option.{option_map_or, option_and_then, unwrap_or}}
 use Rattle.std.proofs.lemmas.{Bool.{true≢false, eqb-true, eq-eqb}, Option.{none-some}}
-use Rattle.oc_base.specs.{declared.format.Word.{Word}, declared.format.Word.TheVariants.{W32, W64}, Formats.{word_for}}
+use Rattle.oc_base.specs.{declared.format.Word.{Word}, Formats.{word_for}}
 use Rattle.oc_linking.specs.{declared.terms.Kind.TheVariants.{Zero}, declared.terms.Fallback.{Fallback}, declared.terms.Binding.TheVariants.{Weak}}
 use Rattle.oc_linking.specs.Numbers.{first_from}
 use Rattle.oc_linking.specs.declared.terms.Fallback.TheVariants as fallback
@@ -28,12 +28,10 @@ pub for_mach : (w : Word) (n : Object) → IsFitted (mach_format w) n → IsForM
 for_mach w n fits = record { object = fits.object; format = fits.format; meets = meets_mach (mach_format w) n (family w) fits }
   where
     family : (w : Word) → container_of (mach_format w) ≡ IsMach
-    family W32 = refl
-    family W64 = refl
+    family w = grind arith
 
 pub word_back : (w : Word) → word_for (mach_format w) ≡ w
-word_back W32 = refl
-word_back W64 = refl
+word_back w = grind arith
 
 -- a fallback that is written as a place
 pub record IsPlaced (w : Word) (n : Object) (f : Fallback) : Type 0 where

@@ -1,5 +1,5 @@
 -- A canonical file has as many symbols as are counted.
-use Rattle.std.proofs.Common.{◌≡◌, ℕ, ◌+◌, ◌^◌, ◌<◌, Bool, true, false, ◌&&◌, cond, List, [], ◌∷◌, ◌++◌, length, refl, sym, ◌∙◌, ap, subst, arith, length-append}
+use Rattle.std.proofs.Common.{◌≡◌, ℕ, ◌+◌, ◌^◌, ◌<◌, Bool, true, false, ◌&&◌, cond, List, [], ◌∷◌, ◌++◌, length, refl, ◌∙◌, ap, arith, length-append}
 use Rattle.std.specs.List.{count_by, enumerate_from, filter}
 use Rattle.std.proofs.lemmas.{Bool.{true≢false}, List.{length-map}, List.Sums.{sum_by-cons, length-filter}}
 use Rattle.oc_base.specs.{declared.format.Word.{Word}, declared.format.Word.TheVariants.{W32, W64}}
@@ -50,15 +50,10 @@ module _ (w : Word) (n : Object) (is : IsForMach w n) where
   written_as s = ap (λ f. is_written f s) is.format ∙ by w
     where
       by : (v : Word) → is_written (mach_format v) s ≡ is_written_by (mach_writes v) s.name s.binding
-      by W32 = refl
-      by W64 = refl
+      by v = grind arith
 
   outer_written : (name : List ℕ) (b : Binding) → is_local b ≡ false → is_written_by (mach_writes w) name b ≡ true
-  outer_written name (Local v) e = absurd (true≢false e)
-  outer_written name (Global v) e = refl
-  outer_written name Undefined e = refl
-  outer_written name (Common size align) e = refl
-  outer_written name (Weak f) e = refl
+  outer_written name b e = grind arith
 
   length-own : (v : Word) → length (own_lines v n) ≡ length (mach_needed v n)
   length-own W32 = refl
@@ -87,5 +82,4 @@ module _ (w : Word) (n : Object) (is : IsForMach w n) where
   few_lines = let long = length-lines in let few = by w refl in omega (arith, long, few)
     where
       by : (v : Word) → w ≡ v → mach_symbol_count w n < 2 ^ 24
-      by W32 e = subst (λ u. mach_symbol_count u n < 2 ^ 24) (sym e) (is.meets.table_32 (ap mach_format e))
-      by W64 e = subst (λ u. mach_symbol_count u n < 2 ^ 24) (sym e) (is.meets.table_64 (ap mach_format e))
+      by v e = grind arith

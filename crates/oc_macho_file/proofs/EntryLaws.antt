@@ -82,23 +82,18 @@ unfolding standing_entries
 entries_written w n lines x = by w x.row.second
   where
     by : (w : Word) (o : Option ℕ) → (elim o [ None ↦ plain_entry x x.row.number (reference_to w lines x.reloc.target) ∷ [] | Some second ↦ pair_entries w n lines x second ]) ≡ written_entries (written_by w n lines x o)
-    by w None = refl
-    by W32 (Some second) = refl
-    by W64 (Some second) = refl
+    by w o = grind arith
 
 -- the first entry has the field's offset
 first_address : (w : Word) (n : Object) (lines : List (Laid Line)) (x : WrittenReloc) → (item_of (written_standing w n lines x)).first.r_address ≡ x.at
 first_address w n lines x = by w x.row.second
   where
     by : (w : Word) (o : Option ℕ) → (item_of (written_by w n lines x o)).first.r_address ≡ x.at
-    by w None = refl
-    by W32 (Some second) = refl
-    by W64 (Some second) = refl
+    by w o = grind arith
 
 -- the numbers of a pair
 pub pair_second : (w : Word) (m : MachRow) → IsPairRow w m → (s : ℕ) × (m.row.second ≡ Some s)
-pair_second W32 m p = (1, p.0)
-pair_second W64 m p = (0, p.0)
+pair_second w m p = grind arith
 
 -- the first entry of a pair is read as of its type, where entries of that type are
 pair_first : (w : Word) (n : Object) (lines : List (Laid Line)) (x : WrittenReloc) (m : MachRow) (second : ℕ) → IsPairRow w m → m.row ≡ x.row
@@ -109,10 +104,7 @@ pair_first W32 n lines x m second p same found none pcrel =
 pair_first W64 n lines x m second p same found none pcrel = found (plain_entry x x.row.number (reference.Symbol (own_number lines (taken_section x)))) refl pcrel refl p.1
 
 lone_refers : (w : Word) (lines : List (Laid Line)) (m : MachRow) (t : Target) → IsAloneRow w m → can_refer m (reference_to w lines t) ≡ true
-lone_refers W32 lines m (target.Section j) a = a.1
-lone_refers W32 lines m (target.Symbol j) a = a.0
-lone_refers W64 lines m (target.Section j) a = a
-lone_refers W64 lines m (target.Symbol j) a = a
+lone_refers w lines m t a = grind arith
 
 flat_same : {X Y Z : Type 0} (f : X → List Z) (g : Y → List Z) (h : X → Y) (xs : List X) → AllByRecursion (λ x. f x ≡ g (h x)) xs → flat_map f xs ≡ flat_map g (map h xs)
 flat_same f g h [] all = refl
@@ -216,8 +208,7 @@ module _ (w : Word) (n : Object) (is : IsForMach w n) where
       told = by known.known
         where
           as_pair : (w : Word) (x : WrittenReloc) (second : ℕ) → is_first w (item_of (written_pair w n lines x second)).first ≡ true → IsTold w (written_pair w n lines x second)
-          as_pair W32 x second e = e
-          as_pair W64 x second e = e
+          as_pair w x second e = grind arith
 
           by : IsKnown w entry → IsTold w own
           by (KnownAlone none alone lacks) =
@@ -234,8 +225,7 @@ module _ (w : Word) (n : Object) (is : IsForMach w n) where
       first_length = by known.known
         where
           as_pair : (v : Word) → w ≡ v → (second : ℕ) → IsPairRow w entry → (item_of (written_pair v n lines standing second)).first.r_length ≡ length_of row.width
-          as_pair W32 e second p = sym (sym (row_is (λ y. length_of y.width)) ∙ (subst (λ v. IsPairRow v entry) e p).1)
-          as_pair W64 e second p = refl
+          as_pair v e second p = grind arith
 
           by : IsKnown w entry → (item_of own).first.r_length ≡ length_of row.width
           by (KnownAlone none alone lacks) = ap (λ o. (item_of (written_by w n lines standing o)).first.r_length) (sym (row_is (λ x. x.second)) ∙ none)
@@ -354,8 +344,7 @@ module _ (w : Word) (n : Object) (is : IsForMach w n) where
     passes_at at i (Some j) h = by (nat_eq j.first.r_address at) refl h
       where
         by : (b : Bool) → nat_eq j.first.r_address at ≡ b → cond b (Some j) None ≡ Some i → (Some j ≡ Some i) × (i.first.r_address ≡ at)
-        by true e h = (h, ap (λ (x : Item). x.first.r_address) (sym (same_Some j i h)) ∙ eqb-true j.first.r_address at e)
-        by false e h = absurd (none-some i h)
+        by b e h = grind arith
 
     -- what is found at an offset is the item of the relocation there
     found_there : (at : ℕ) (i : Item) → first_upto (at_offset at) (length (entries_of w n lines k)) ≡ Some i

@@ -1,5 +1,5 @@
 -- The fields of a canonical file: what numbers stand in them, and which entries they are read by.
-use Rattle.std.proofs.Common.{◌≡◌, ℕ, ◌%◌, ◌≤◌, cond, ℤ, List, length, replicate, Option, Some, None, Ok, refl, sym, ◌∙◌, ap, arith}
+use Rattle.std.proofs.Common.{◌≡◌, ℕ, ◌%◌, ◌≤◌, cond, ℤ, List, length, replicate, Option, Some, None, Ok, sym, ◌∙◌, ap, arith}
 use Rattle.std.specs.{Prelude.{◌+ℤ◌, slice_get}, Option.{option_map, option_map_or, option_and_then}}
 use Rattle.oc_base.specs.{declared.format.Word.{Word}, declared.format.Word.TheVariants.{W32, W64}, Numbers.{number_at}}
 use Rattle.oc_linking.specs.Fits.{bytes_of, span}
@@ -115,8 +115,7 @@ module _ (w : Word) (n : Object) (is : IsForMach w n) where
       taken_alone second = ap (λ o. taken_entry w (item_of (written_by w n lines x o))) second ∙ by w
         where
           by : (v : Word) → taken_entry v (record { first = plain_entry x x.row.number (reference_to w lines r.target); second = None }) ≡ None
-          by W32 = refl
-          by W64 = refl
+          by v = grind arith
 
       -- of a pair of x86-64
       pub found_long : w ≡ W64 → (second : ℕ) → x.row.second ≡ Some second → (aim taken : Aim) → aim_in t (reference_to W64 lines r.target) ≡ Some (Some aim)

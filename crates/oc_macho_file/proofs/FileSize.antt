@@ -1,5 +1,5 @@
 -- A canonical file has fewer than 2^32 bytes.
-use Rattle.std.proofs.Common.{◌≡◌, ℕ, zero, suc, ◌+◌, ◌-◌, ◌*◌, ◌^◌, ◌<◌, ◌≤◌, Bool, true, false, not, ◌&&◌, cond, eqb, List, [], ◌∷◌, ◌++◌, length, map, get_or, replicate, Some, refl, ◌∙◌, ap, arith, length-append}
+use Rattle.std.proofs.Common.{◌≡◌, ℕ, zero, suc, ◌+◌, ◌-◌, ◌*◌, ◌^◌, ◌<◌, ◌≤◌, Bool, not, ◌&&◌, cond, eqb, List, [], ◌∷◌, ◌++◌, length, map, get_or, replicate, Some, refl, ◌∙◌, ap, arith, length-append}
 use Rattle.std.specs.{Prelude.{slice_get, flat_map, codes, decimal}, List.{sum_by, enumerate_from, filter, AllByRecursion}}
 use Rattle.std.proofs.lemmas.{Fmt.{length-decimal-le}, List.{length-map}, List.FromFn.{length-enumerate_from}, List.Sums.{sum_by-cons, sum_by-append}}
 use Rattle.oc_base.specs.{declared.format.Word.{Word}, declared.format.Word.TheVariants.{W32, W64}}
@@ -29,8 +29,7 @@ length_filter test [] = omega arith
 length_filter {X} test (x ∷ xs) = by (test x) (length_filter test xs)
   where
     by : (b : Bool) → length (filter test xs) ≤ length xs → length (cond b (x ∷ filter test xs) (filter test xs)) ≤ length (x ∷ xs)
-    by true rest = omega (arith, rest)
-    by false rest = omega (arith, rest)
+    by b rest = grind arith
 
 sum_most : {X : Type 0} (size : X → ℕ) (m : ℕ) (xs : List X) → ((i : ℕ) (x : X) → slice_get xs i ≡ Some x → size x ≤ m) → sum_by size xs ≤ m * length xs
 sum_most size m [] each = omega arith
@@ -109,8 +108,7 @@ module _ (w : Word) (n : Object) (is : IsForMach w n) where
       omega (arith, a, b, c, d, e, f, own, la, lb, g, h, i, j, k)
 
   unit_low : (v : Word) → (1 ≤ address_size v) × (address_size v ≤ 32768)
-  unit_low W32 = (omega arith, omega arith)
-  unit_low W64 = (omega arith, omega arith)
+  unit_low v = grind arith
 
   strings_size : length (string_table w n) ≤ 32769 + sum_by ended_size (line_names w n)
   unfolding string_table
@@ -157,16 +155,13 @@ module _ (w : Word) (n : Object) (is : IsForMach w n) where
   -- ... parts
 
   entry_unit : (v : Word) (b : Bool) → (1 ≤ cond b 1 (address_size v)) × (cond b 1 (address_size v) ≤ 32768)
-  entry_unit v true = (omega arith, omega arith)
-  entry_unit W32 false = (omega arith, omega arith)
-  entry_unit W64 false = (omega arith, omega arith)
+  entry_unit v b = grind arith
 
   begin_low : contents_begin w n ≤ 20700
   begin_low = let few = is.meets.few in by w few
     where
       by : (v : Word) → length n.sections ≤ 255 → contents_begin v n ≤ 20700
-      by W32 few = omega (arith, few)
-      by W64 few = omega (arith, few)
+      by v few = grind arith
 
   near : (x : Part) → IsPartOf n x → (p : ℕ) → part_begin w n p x ≤ p + 65536
   near FileHead own p = omega arith
@@ -193,12 +188,10 @@ module _ (w : Word) (n : Object) (is : IsForMach w n) where
   head_sizes = let few = is.meets.few in by w few
     where
       by : (v : Word) → length n.sections ≤ 255 → sum_by (part_size v n) head_parts ≤ 20700
-      by W32 few = omega (arith, few)
-      by W64 few = omega (arith, few)
+      by v few = grind arith
 
   nlist_low : (v : Word) (m : ℕ) → nlist_size v * m ≤ 16 * m
-  nlist_low W32 m = omega arith
-  nlist_low W64 m = omega arith
+  nlist_low v m = grind arith
 
   pub small_file : length (mach_file w n) < 2 ^ 32
   unfolding parts_of

@@ -1,23 +1,23 @@
 -- The fields of a canonical file are the relocations of the object that is seen: alone and in pairs, of both words.
-use Rattle.std.proofs.Common.{◌≡◌, ℕ, ◌+◌, ◌%◌, Bool, true, false, ◌&&◌, ◌||◌, cond, ℤ, Option, Some, None, refl, sym, ◌∙◌, ap, subst, inl, inr, arith, neg_ℤ}
+use Rattle.std.proofs.Common.{◌≡◌, ℕ, ◌+◌, ◌%◌, Bool, true, false, ◌&&◌, ◌||◌, cond, ℤ, Option, Some, None, refl, sym, ◌∙◌, ap, subst, inl, arith, neg_ℤ}
 use Rattle.std.specs.{Prelude.{◌⊎◌, ◌+ℤ◌, ◌-ℤ◌, slice_get, pos, is_some}, Option.{option_map_or, unwrap_or}}
 use Rattle.std.proofs.lemmas.{Bool.{true≢false}, Int.{ints}}
 use Rattle.oc_base.specs.{declared.format.Word.{Word}, declared.format.Word.TheVariants.{W32, W64}, Formats.{word_for}}
-use Rattle.oc_linking.specs.{declared.terms.Base.{Base}, declared.terms.Hint.TheVariants.{Plain}, declared.terms.Less.{Less}, Keeping.{all}}
-use Rattle.oc_linking.specs.{Numbers.{modulus, minus, reduced}, Placing.{Placement}, Rules.{Field}, Values.{Valuation}}
+use Rattle.oc_linking.specs.{declared.terms.Base.{Base}, declared.terms.Less.{Less}, Keeping.{all}, Numbers.{modulus, minus, reduced}, Placing.{Placement}}
+use Rattle.oc_linking.specs.{Rules.{Field}, Values.{Valuation}}
 use Rattle.oc_linking.specs.declared.terms.Base.TheVariants as base
 use Rattle.oc_linking.specs.declared.terms.Less.TheVariants as less
 use Rattle.oc_algebra.specs.Residues.{residue_of, reduced_number}
 use Rattle.oc_algebra.proofs.Laws.{residue_less, residue_reduced}
 use Rattle.oc_neutral.specs.{declared.section.Section.{Section}, declared.reloc.Reloc.{Reloc}, declared.reloc.Target.{Target}}
-use Rattle.oc_neutral.specs.{Dialects.{Dialect, target_by, is_difference, less_in}, Mach.Relocs.{MachRow}, Faces.{shown_symbols}}
+use Rattle.oc_neutral.specs.{Dialects.{Dialect, is_difference, less_in}, Mach.Relocs.{MachRow}, Faces.{shown_symbols}}
 use Rattle.oc_neutral.specs.{Normal.{Place, cancels, at_section, moved_addend}, Objects.{Object, reloc_at}}
 use Rattle.oc_neutral.specs.Rows.{Taken, TakesZero, TakesPlace, TakesGotBase, TakesImageBase, TakesHome, TakesSection, same_taken, taken_of, shift_of}
 use Rattle.oc_neutral.specs.{Shifts.{entry_target_shift}, Worth.{base_of, target_worth, residue_at}}
 use Rattle.oc_neutral.specs.declared.reloc.Target.TheVariants as target
 use Rattle.oc_shows.specs.{Built.{IsField}, Manners.{mach_manner, mach_hint, mach_by_section}, RowFields.{number_in}}
 use Rattle.oc_shows.specs.Seen.{target_place, section_place, seen_target, seen_reloc}
-use Rattle.oc_target.specs.Meets.{IsTakenBy, has_calls}
+use Rattle.oc_target.specs.Meets.{IsTakenBy}
 use Rattle.oc_neutral.specs.Rows as rows
 use Rattle.oc_neutral.specs.Worth as worth
 use Rattle.oc_macho.specs.{MachHeader.{mach_format}, Tables.{SectionTable, Tables}, Entries.{taken_entry}, Aims.{Aim, section_aim, aim_in}}
@@ -25,12 +25,10 @@ use Rattle.oc_macho.specs.{Fields.{FieldParts, field_parts_by, added_by, number_
 use Rattle.oc_macho.specs.Sections as read
 use Rattle.oc_macho_file.specs.{Addresses.{address_of}, Lines.{numbered_lines}}
 use Rattle.oc_macho_file.specs.{Bodies.{WrittenReloc, entry_target_of, alone_shift, pair_shift, field_shift, reference_to}, Canonical.{mach_file}}
-use Rattle.oc_macho_file.proofs.{TableLaws.{made_table, made_tables}, CodedLaws.{IsForMach, word_is}}
-use Rattle.oc_macho_file.proofs.RowLaws.{IsPlain, PlainZero, PlainPlace, PlainSection, moves_own, counted_behind}
-use Rattle.oc_macho_file.proofs.{EntryLaws.{mach_reloc, meets, row, entry, row_is, known, standing}, SectionLaws.{address_made, contents_made}}
-use Rattle.oc_macho_file.proofs.{SeenLaws.{shown, again}, TargetLaws.{IsAimedAt}, FieldLaws.{own_item, field_there, number, held, found_alone, taken_alone}}
+use Rattle.oc_macho_file.proofs.{TableLaws.{made_table, made_tables}, CodedLaws.{IsForMach, word_is}, RowLaws.{IsPlain, moves_own, counted_behind}}
+use Rattle.oc_macho_file.proofs.{EntryLaws.{meets, row, entry, row_is, known, standing}, SectionLaws.{address_made, contents_made}, SeenLaws.{shown, again}}
+use Rattle.oc_macho_file.proofs.{TargetLaws.{IsAimedAt}, FieldLaws.{own_item, field_there, number, held, found_alone, taken_alone}}
 use Rattle.oc_macho_file.proofs.AgainLaws.{placed_field, placed_dialect}
-use Rattle.oc_neutral.proofs.NormalLemmas.{cancels-place}
 
 -- ... numbers, by word
 
@@ -56,15 +54,10 @@ placed_shift : (N : ℤ) (o from : ℕ) → N +ℤ (pos o +ℤ neg_ℤ (pos from
 placed_shift N o from = omega (arith, ints)
 
 pub one_of_two : (b : Bool) (x : ℕ) → cond b x x ≡ x
-one_of_two true x = refl
-one_of_two false x = refl
+one_of_two b x = grind arith
 
 no_zero : (b : Base) (t : Target) → cancels b t less.Zero ≡ false
-no_zero base.Address (target.Section k) = refl
-no_zero base.Address (target.Symbol k) = refl
-no_zero base.Slot t = refl
-no_zero base.GotBase t = refl
-no_zero base.HomeNumber t = refl
+no_zero b t = grind arith
 
 -- what is taken where no section is: nothing, or the place
 pub data IsLone (t : Taken) (l : Less) : Type 0 where
@@ -72,20 +65,10 @@ pub data IsLone (t : Taken) (l : Less) : Type 0 where
   ThePlace : t ≡ TakesPlace → l ≡ less.Place → IsLone t l
 
 less_zero : (l : Less) → TakesZero ≡ taken_of l → l ≡ less.Zero
-less_zero less.Zero e = refl
-less_zero less.Place e = absurd (true≢false (ap (λ k. same_taken k TakesZero) e))
-less_zero less.GotBase e = absurd (true≢false (ap (λ k. same_taken k TakesZero) e))
-less_zero less.ImageBase e = absurd (true≢false (ap (λ k. same_taken k TakesZero) e))
-less_zero less.Home e = absurd (true≢false (ap (λ k. same_taken k TakesZero) e))
-less_zero (less.Section j) e = absurd (true≢false (ap (λ k. same_taken k TakesZero) e))
+less_zero l e = grind arith
 
 less_place : (l : Less) → TakesPlace ≡ taken_of l → l ≡ less.Place
-less_place less.Zero e = absurd (true≢false (ap (λ k. same_taken k TakesPlace) e))
-less_place less.Place e = refl
-less_place less.GotBase e = absurd (true≢false (ap (λ k. same_taken k TakesPlace) e))
-less_place less.ImageBase e = absurd (true≢false (ap (λ k. same_taken k TakesPlace) e))
-less_place less.Home e = absurd (true≢false (ap (λ k. same_taken k TakesPlace) e))
-less_place (less.Section j) e = absurd (true≢false (ap (λ k. same_taken k TakesPlace) e))
+less_place l e = grind arith
 
 module _ (w : Word) (n : Object) (is : IsForMach w n) (symbols : (mach_dialect w).rules.symbols (mach_file w n) all ≡ shown_symbols (again w n)) where
   abbrev t : Tables
@@ -162,8 +145,7 @@ module _ (w : Word) (n : Object) (is : IsForMach w n) (symbols : (mach_dialect w
         moved = row_is w n is k at r there (λ y. y.hint)
 
         by : (v : Word) → w ≡ v → mach_hint w r.hint ≡ e.row.hint
-        by W32 v = ap (λ u. mach_hint u r.hint) v ∙ sym (ap (λ u. cond (has_calls (mach_format u)) r.hint Plain) v) ∙ sym ((meets w n is k at r there).is.hint) ∙ sym moved
-        by W64 v = ap (λ u. mach_hint u r.hint) v ∙ sym ((mach_reloc w n is k at r there).hint (ap mach_format v)) ∙ sym moved
+        by x v = grind arith
 
     -- what is found, with its residue
     pub conclude : (f : FieldParts) → field_parts_by t (own_item w n is k s here at r there) ≡ Some f → f.row ≡ e → (u : Target) (A : ℤ)
@@ -207,10 +189,7 @@ module _ (w : Word) (n : Object) (is : IsForMach w n) (symbols : (mach_dialect w
         moved = row_is w n is k at r there (λ y. y.taken)
 
         by : IsTakenBy (mach_format w) r.form.less (row w n is k at r there).taken → IsPlain e.row.taken → IsLone e.row.taken r.form.less
-        by (inl same) (PlainZero z) = Nothing z (less_zero r.form.less (sym z ∙ moved ∙ same))
-        by (inl same) (PlainPlace z) = ThePlace z (less_place r.form.less (sym z ∙ moved ∙ same))
-        by (inl same) (PlainSection z) = absurd (true≢false (sym (ap (λ y. same_taken y TakesSection) z) ∙ lacks))
-        by (inr own) plain = absurd (true≢false (sym (ap (λ y. same_taken y TakesSection) (moved ∙ own.2)) ∙ lacks))
+        by x plain = grind arith
 
     none_lone : IsLone e.row.taken r.form.less → section_place (mach_manner w) n r ≡ None
     none_lone lone = by lone
@@ -219,16 +198,13 @@ module _ (w : Word) (n : Object) (is : IsForMach w n) (symbols : (mach_dialect w
         at_less l = cond (mach_by_section w l) (target_place n l r.target) None
 
         zero_not : (v : Word) → mach_by_section v less.Zero ≡ false
-        zero_not W32 = refl
-        zero_not W64 = refl
+        zero_not v = grind arith
 
         place_not : (v : Word) → mach_by_section v less.Place ≡ false
-        place_not W32 = refl
-        place_not W64 = refl
+        place_not v = grind arith
 
         by : IsLone e.row.taken r.form.less → section_place (mach_manner w) n r ≡ None
-        by (Nothing z l) = ap at_less l ∙ ap (λ b. cond b (target_place n less.Zero r.target) None) (zero_not w)
-        by (ThePlace z l) = ap at_less l ∙ ap (λ b. cond b (target_place n less.Place r.target) None) (place_not w)
+        by x = grind arith
 
     -- how the entry counts: in x86-64 from nothing, in i386 from the address of a section
     pub data IsCounting (aim : Aim) : Type 0 where
@@ -281,8 +257,7 @@ module _ (w : Word) (n : Object) (is : IsForMach w n) (symbols : (mach_dialect w
           lacks = lack lone
             where
               lack : IsLone e.row.taken r.form.less → same_taken x.row.taken TakesSection ≡ false
-              lack (Nothing z l) = ap (λ y. same_taken y TakesSection) (sym (row_is w n is k at r there (λ y. y.taken)) ∙ z)
-              lack (ThePlace z l) = ap (λ y. same_taken y TakesSection) (sym (row_is w n is k at r there (λ y. y.taken)) ∙ z)
+              lack x = grind arith
 
           shifted : field_shift w n x ≡ neg_ℤ (pos e.row.behind)
           shifted =
@@ -335,8 +310,7 @@ module _ (w : Word) (n : Object) (is : IsForMach w n) (symbols : (mach_dialect w
           (λ p v Bt e. value lone p v Bt e) (varied lone) (inl (taken_alone w n is k s here at r there second))
         where
           less_is : IsLone e.row.taken r.form.less → r.form.less ≡ less_in k (rows.less_of e.row.taken 0)
-          less_is (Nothing z l) = l ∙ ap (λ y. less_in k (rows.less_of y 0)) (sym z)
-          less_is (ThePlace z l) = l ∙ ap (λ y. less_in k (rows.less_of y 0)) (sym z)
+          less_is x = grind arith
 
           residue_is : residue_of w (reduced_number w r.addend) ≡ minus w (residue_of w (added_by t k at (number_of c at alone) alone)) e.row.behind
           residue_is =
@@ -362,5 +336,4 @@ module _ (w : Word) (n : Object) (is : IsForMach w n) (symbols : (mach_dialect w
               ∙ ap (λ y. minus w (Bu + ra) (worth.less_of p k at (aim.target.worth p v) (rows.less_of y 0) + e.row.behind)) (sym z)
 
           varied : IsLone e.row.taken r.form.less → is_difference (field_with t k at (added_by t k at (number_of c at alone) alone) alone) ≡ false
-          varied (Nothing z l) = ap (λ y. cancels e.row.base (target_by aim.target.named) (rows.less_of y 0)) z ∙ no_zero e.row.base (target_by aim.target.named)
-          varied (ThePlace z l) = ap (λ y. cancels e.row.base (target_by aim.target.named) (rows.less_of y 0)) z ∙ cancels-place e.row.base (target_by aim.target.named)
+          varied x = grind arith

@@ -2,7 +2,7 @@
 use Rattle.std.proofs.Common.{◌≡◌, ℕ, ◌+◌, ◌*◌, ◌%◌, ◌≤◌, true, false, not, ◌||◌, cond, List, [], length, Some, refl, sym, ◌∙◌, ap, subst, arith}
 use Rattle.std.specs.{Prelude.{nat_lt, nat_eq, flat_map}, Option.{option_map_or}}
 use Rattle.std.proofs.lemmas.Bool.Decides.{nat_tests}
-use Rattle.oc_base.specs.{declared.format.Word.{Word}, declared.format.Word.TheVariants.{W32, W64}}
+use Rattle.oc_base.specs.declared.format.Word.{Word}
 use Rattle.oc_base.proofs.NumberLaws.{length-table}
 use Rattle.oc_neutral.specs.Objects.{Object}
 use Rattle.oc_shelf.specs.Writing.Packed.{packed}
@@ -26,18 +26,15 @@ within_file size end l = grind (arith, nat_tests, l)
 -- the least size of each command that is written
 least_segment : (w : Word) (file : List ℕ) (at : ℕ) → least_size w file at (segment_number w) ≡ Some (whole_segment w file at)
 unfolding least_size
-least_segment W32 file at = refl
-least_segment W64 file at = refl
+least_segment w file at = grind arith
 
 least_symtab : (w : Word) (file : List ℕ) (at : ℕ) → least_size w file at LC_SYMTAB ≡ Some 24
 unfolding least_size
-least_symtab W32 file at = refl
-least_symtab W64 file at = refl
+least_symtab w file at = grind arith
 
 least_dysymtab : (w : Word) (file : List ℕ) (at : ℕ) → least_size w file at LC_DYSYMTAB ≡ Some 80
 unfolding least_size
-least_dysymtab W32 file at = refl
-least_dysymtab W64 file at = refl
+least_dysymtab w file at = grind arith
 
 module _ (w : Word) (n : Object) (fits : IsCodable w n) where
   abbrev file : List ℕ
@@ -87,12 +84,10 @@ module _ (w : Word) (n : Object) (fits : IsCodable w n) where
   bad_by at a b = ap (λ x. x || is_short w file at) a ∙ b
 
   segment_even : (w : Word) (k : ℕ) → (segment_command_size w + section_header_size w * k) % 4 ≡ 0
-  segment_even W32 k = omega arith
-  segment_even W64 k = omega arith
+  segment_even w k = grind arith
 
   segment_big : (w : Word) (k : ℕ) → 8 ≤ segment_command_size w + section_header_size w * k
-  segment_big W32 k = omega arith
-  segment_big W64 k = omega arith
+  segment_big w k = grind arith
 
   first_good : is_bad w file (command_place w file 0) ≡ false
   first_good =
@@ -135,15 +130,13 @@ module _ (w : Word) (n : Object) (fits : IsCodable w n) where
   one_table = counted LC_SYMTAB ∙ by w
     where
       by : (v : Word) → 0 + cond (nat_eq (segment_number v) 2) 1 0 + cond (nat_eq 2 2) 1 0 + cond (nat_eq 11 2) 1 0 ≡ 1
-      by W32 = refl
-      by W64 = refl
+      by v = grind arith
 
   one_segment : count_upto w file (segment_number w) (command_count file) ≡ 1
   one_segment = counted (segment_number w) ∙ by w
     where
       by : (v : Word) → 0 + cond (nat_eq (segment_number v) (segment_number v)) 1 0 + cond (nat_eq 2 (segment_number v)) 1 0 + cond (nat_eq 11 (segment_number v)) 1 0 ≡ 1
-      by W32 = refl
-      by W64 = refl
+      by v = grind arith
 
   good_commands : has_bad_commands w file ≡ false
   good_commands =
@@ -158,8 +151,7 @@ module _ (w : Word) (n : Object) (fits : IsCodable w n) where
   an_object = ap (λ (h : MachHeader). not (nat_eq h.cputype (cpu_type w)) || not (nat_eq h.filetype 1)) (header_read w n fits) ∙ by w
     where
       by : (v : Word) → (not (nat_eq (cpu_type v) (cpu_type v)) || not (nat_eq 1 1)) ≡ false
-      by W32 = refl
-      by W64 = refl
+      by v = grind arith
 
   symbols_inside : part_where w n is_symbol_table + nlist_size w * length (lines_of w n) ≤ length file
   symbols_inside =

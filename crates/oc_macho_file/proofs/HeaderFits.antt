@@ -120,8 +120,7 @@ module _ (w : Word) (n : Object) (is : IsForMach w n) (small : length (mach_file
       counted at a m inside long = omega (arith, inside, long, small)
 
       pointer : (b : Bool) {at : ℕ} → at < 2 ^ 32 → cond b 0 at < 2 ^ 32
-      pointer true l = omega arith
-      pointer false l = l
+      pointer b l = grind arith
 
       by : (v : Word) → s.size ≤ 2147483647 → address_of n k + s.size ≤ memory_end n → memory_end n ≤ 2155839488 → exponent_of s.align ≤ 15 → part_where w n (is_raw k) < 2 ^ 32
           → pointer_to (part_where w n (is_relocs k)) (length (relocs_of w n k)) < 2 ^ 32 → length (relocs_of w n k) < 2 ^ 32 → s.tag < 2 ^ 32 → Fit (section_numbers v (section_header w n (k, s)))

@@ -61,8 +61,7 @@ module _ (w : Word) (es : List RelocationInfo) where
   nothing_there p none = ap (λ o. cond (begins w es p) (option_map (item_with w es p) o) None) none ∙ by (begins w es p)
     where
       by : (b : Bool) → cond {A = Option Item} b None None ≡ None
-      by true = refl
-      by false = refl
+      by b = grind arith
 
   -- whether the next begins an item
   next : (p : ℕ) (e : RelocationInfo) → begins w es p ≡ true → slice_get es p ≡ Some e → begins w es (suc p) ≡ not (is_first w e)
@@ -164,6 +163,4 @@ unfolding item_at
 item_inside w es k i h = by (begins w es k) (slice_get es k) refl h
   where
     by : (b : Bool) (o : Option RelocationInfo) → slice_get es k ≡ o → cond b (option_map (item_with w es k) o) None ≡ Some i → (e : RelocationInfo) × (slice_get es k ≡ Some e)
-    by true None h e = absurd (none-some i e)
-    by true (Some x) h e = (x, h)
-    by false o h e = absurd (none-some i e)
+    by b o h e = grind arith

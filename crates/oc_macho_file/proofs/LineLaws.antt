@@ -1,7 +1,7 @@
 -- The lines of an object: what they are, where they are found, and that they are those by which symbols are seen.
 use Rattle.std.proofs.Common.{◌≡◌, ℕ, ◌+◌, Bool, true, false, ◌&&◌, List, [], ◌∷◌, ◌++◌, length, map, Some, refl, sym, ◌∙◌, ap, subst, inl, inr, arith, append_assoc}
 use Rattle.std.specs.{Prelude.{slice_get}, List.{enumerate_from, filter}}
-use Rattle.std.proofs.lemmas.{Bool.{true≢false, eqb-true, eq-eqb, and_parts}, Option.{none-some, same_Some}}
+use Rattle.std.proofs.lemmas.{Bool.{true≢false, eq-eqb, and_parts}, Option.{none-some}}
 use Rattle.oc_base.specs.{declared.format.Word.{Word}, declared.format.Word.TheVariants.{W32, W64}}
 use Rattle.oc_linking.specs.{declared.terms.Binding.{Binding}, declared.terms.Binding.TheVariants.{Local, Global, Undefined, Common, Weak}, Parts.{is_local}}
 use Rattle.oc_linking.specs.declared.terms.Fallback.TheVariants as fallback
@@ -35,32 +35,16 @@ counted_line (OuterLine k s) = record { entries = 1; shows = Some k }
 
 -- what is written behind the Locals is not Local
 defined_outer : (b : Binding) → is_defined b ≡ true → is_local b ≡ false
-defined_outer (Local v) e = absurd (true≢false (sym e))
-defined_outer (Global v) e = refl
-defined_outer Undefined e = refl
-defined_outer (Common size align) e = refl
-defined_outer (Weak f) e = refl
+defined_outer b e = grind arith
 
 undefined_outer : (b : Binding) → is_undefined b ≡ true → is_local b ≡ false
-undefined_outer (Local v) e = absurd (true≢false (sym e))
-undefined_outer (Global v) e = refl
-undefined_outer Undefined e = refl
-undefined_outer (Common size align) e = refl
-undefined_outer (Weak f) e = refl
+undefined_outer b e = grind arith
 
 common_outer : (b : Binding) → is_common b ≡ true → is_local b ≡ false
-common_outer (Local v) e = absurd (true≢false (sym e))
-common_outer (Global v) e = refl
-common_outer Undefined e = refl
-common_outer (Common size align) e = refl
-common_outer (Weak f) e = refl
+common_outer b e = grind arith
 
 weak_outer : (b : Binding) → is_weak_with is_zero b ≡ true → is_local b ≡ false
-weak_outer (Local v) e = absurd (true≢false (sym e))
-weak_outer (Global v) e = refl
-weak_outer Undefined e = refl
-weak_outer (Common size align) e = refl
-weak_outer (Weak f) e = refl
+weak_outer b e = grind arith
 
 module _ (w : Word) (n : Object) where
   -- ... what lines are
@@ -206,14 +190,10 @@ module _ (w : Word) (n : Object) where
   -- ... what tests find
 
   own_only : (k : ℕ) (x : Line) → is_own_line k x ≡ true → x ≡ OwnLine k
-  own_only k (OwnLine j) e = ap OwnLine (eqb-true j k e)
-  own_only k (LocalLine j t) e = absurd (true≢false (sym e))
-  own_only k (OuterLine j t) e = absurd (true≢false (sym e))
+  own_only k x e = grind arith
 
   symbol_only : (k : ℕ) (s : Symbol) → slice_get n.symbols k ≡ Some s → (x : Line) → IsLine w n x → is_symbol_line k x ≡ true → x ≡ OuterLine k s
-  symbol_only k s here (OwnLine j) is e = absurd (true≢false (sym e))
-  symbol_only k s here (LocalLine j t) is e = absurd (true≢false (sym e))
-  symbol_only k s here (OuterLine j t) is e = let same : j ≡ k = eqb-true j k e in ap (λ p. OuterLine p t) same ∙ ap (OuterLine k) (same_Some t s (sym is.0 ∙ ap (slice_get n.symbols) same ∙ here))
+  symbol_only k s here x is e = grind arith
 
   pub own_found : w ≡ W64 → (k i : ℕ) → slice_get (needed_sections n) i ≡ Some k → slice_get (lines_of w n) (own_number (numbered_lines w n) k) ≡ Some (OwnLine k)
   own_found e k i here =

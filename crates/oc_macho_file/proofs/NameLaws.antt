@@ -78,9 +78,7 @@ module _ (w : Word) (n : Object) (is : IsForMach w n) where
 
   line_offset : (x : Line) → (line_entry w n x).n_strx ≡ offset_in (line_names w n) (line_name x)
   unfolding line_entry
-  line_offset (OwnLine k) = refl
-  line_offset (LocalLine k s) = refl
-  line_offset (OuterLine k s) = refl
+  line_offset x = grind arith
 
   -- the texts stand behind the first NUL
   texts_stand : Stands (string_table w n) 1 (table_text (line_names w n))

@@ -34,7 +34,6 @@ use Rattle.oc_macho_file.proofs.{AimLaws.{own_aimed, address_aimed}, TargetLaws.
 use Rattle.oc_macho_file.proofs.GivenLaws.{pair_value, own_value, one_of_two, q, IsGivenField, residue_held, number_is, seen_as, seen_at, conclude}
 use Rattle.oc_neutral.proofs.Positions.{there_at}
 use Rattle.oc_macho.specs.declared.relocation_info.Reference.TheVariants as reference
-use Rattle.oc_shows.proofs.Looking.{cancels-symbol}
 
 less_more : (N : ℤ) → N +ℤ neg_ℤ (pos 0) ≡ N -ℤ pos 0 +ℤ pos 0
 less_more N = omega (arith, ints)
@@ -91,8 +90,7 @@ module _ (w : Word) (n : Object) (is : IsForMach w n) (symbols : (mach_dialect w
       address = by w difference
         where
           by : (v : Word) → IsDifferenceRow v m → m.row.base ≡ base.Address
-          by W32 d = d
-          by W64 d = d.0
+          by v d = grind arith
 
       base_is : r.form.base ≡ base.Address
       base_is = sym (meets w n is k at r there).is.base ∙ sym (row_is w n is k at r there (λ y. y.base)) ∙ address
@@ -101,8 +99,7 @@ module _ (w : Word) (n : Object) (is : IsForMach w n) (symbols : (mach_dialect w
       none_behind = by w (known w n is k at r there).behind
         where
           by : (v : Word) → counted_behind v m ≡ 0 → m.row.behind ≡ 0
-          by W32 h = h
-          by W64 h = sym (ap (λ y. cond (same_taken y TakesPlace) 0 m.row.behind) takes) ∙ h
+          by v h = grind arith
 
       -- ... what is found
 
@@ -147,8 +144,7 @@ module _ (w : Word) (n : Object) (is : IsForMach w n) (symbols : (mach_dialect w
         varies_by j apart = by (target_by aim.target.named) refl
           where
             by : (y : Target) → target_by aim.target.named ≡ y → cancels m.row.base y (less.Section j) ≡ false
-            by (target.Symbol i) e = cancels-symbol m.row.base i (less.Section j)
-            by (target.Section i) e = ap (λ b. cancels b (target.Section i) (less.Section j)) address ∙ apart i (varied i e)
+            by y e = grind arith
 
         with_taken : (j : ℕ) → taken_section rel ≡ j → IsTakenSection w n is k at r there
             → r.form.less ≡ less_in k (less.Section j)
@@ -269,8 +265,7 @@ module _ (w : Word) (n : Object) (is : IsForMach w n) (symbols : (mach_dialect w
             ap (λ y. cond (mach_by_section w r.form.less) (target_place n r.form.less y) None) to ∙ by (mach_by_section w r.form.less)
           where
             by : (b : Bool) → cond {A = Option Place} b None None ≡ None
-            by true = refl
-            by false = refl
+            by b = grind arith
 
         some_by : (j i : ℕ) (place : Place) → r.form.less ≡ less.Section j → r.target ≡ target.Symbol i → place_at n i ≡ Some place → takes_section place.0 r.form.less ≡ false
             → section_place (mach_manner w) n r ≡ Some place

@@ -1,20 +1,20 @@
 -- The parts of a canonical file: their sizes, and that they stand at their places.
 use Rattle.std.proofs.Common.{◌≡◌, ℕ, zero, suc, ◌+◌, ◌-◌, ◌*◌, ◌%◌, ◌≤◌, Bool, true, false, not, List, ◌++◌, length, map, Some, refl, sym, ◌∙◌, ap, subst, inl, inr, arith}
 use Rattle.std.specs.{Prelude.{slice_get, flat_map}, List.{enumerate_from}}
-use Rattle.std.proofs.lemmas.{List.{length-map}, List.FromFn.{length-enumerate_from}, Bool.{true≢false, eqb-true, eq-eqb}, Option.{none-some, same_Some}}
+use Rattle.std.proofs.lemmas.{List.{length-map}, List.FromFn.{length-enumerate_from}, Bool.{true≢false, eqb-true, eq-eqb}, Option.{same_Some}}
 use Rattle.oc_base.specs.{declared.format.Word.{Word}, declared.format.Word.TheVariants.{W32, W64}}
 use Rattle.oc_base.proofs.NumberLaws.{length-table}
 use Rattle.oc_linking.proofs.Overlay.{length-overlay}
 use Rattle.oc_neutral.specs.{declared.section.Section.{Section}, Objects.{Object}}
 use Rattle.oc_shelf.specs.{Writing.Packed.{packed}, Writing.Parts.{Stands, Laid, laid_end}}
-use Rattle.oc_shelf.proofs.{WritingLaws.PackedLemmas.{length-packed}, WritingLaws.PartLemmas.{stands_where, stands_laid, length-joined, aligned_rises}}
+use Rattle.oc_shelf.proofs.{WritingLaws.PackedLemmas.{length-packed}, WritingLaws.PartLemmas.{stands_where, stands_laid, length-joined}}
 use Rattle.oc_shelf.proofs.WritingLaws.StandingLemmas.{stands_at, length-entries}
 use Rattle.oc_shelf.proofs.WritingLaws.MemberLemmas.{member_first, member_second, member_enumerated, member_map, of_map, of_append, of_enumerated, of_filter, member_filter}
 use Rattle.oc_macho.specs.{declared.section_header.SectionHeader.{SectionHeader}, MachHeader.{mach_header_size}, SegmentCommand.{segment_command_size}}
 use Rattle.oc_macho.specs.{SectionHeader.{section_header_size}, Nlist.{nlist_size}}
 use Rattle.oc_macho.specs.Structures.{mach_header_bytes, symtab_bytes, section_bytes, nlist_bytes, relocation_bytes}
 use Rattle.oc_macho_file.specs.{Addresses.{Numbered, is_blank, stored_sections}, Lines.{lines_of}, Bodies.{field_patches, raw_of}}
-use Rattle.oc_macho_file.specs.Layout.{Part, FileHead, SegmentHead, SectionHeads, SymtabHead, DysymtabHead, Raw, Relocs, SymbolTable, StringTable, raw_part, relocs_part, table_parts, parts_of, contents_begin, relocs_of, string_table, part_size, entries_align, part_begin, laid_parts, part_where, is_raw, is_relocs, is_symbol_table, is_string_table}
+use Rattle.oc_macho_file.specs.Layout.{Part, FileHead, SegmentHead, SectionHeads, SymtabHead, DysymtabHead, Raw, Relocs, SymbolTable, StringTable, raw_part, relocs_part, table_parts, parts_of, relocs_of, string_table, part_size, part_begin, laid_parts, part_where, is_raw, is_relocs, is_symbol_table, is_string_table}
 use Rattle.oc_macho_file.specs.Symbols.{line_entry}
 use Rattle.oc_macho_file.specs.Canonical.{file_header, segment_numbers, section_header, section_headers, symtab_command, dysymtab_numbers, part_bytes, mach_file}
 use Rattle.oc_macho_file.proofs.StructureLaws.{length-padded, length-mach_header_bytes, length-symtab_bytes, length-section_bytes, length-nlist_bytes, length-relocation_bytes}
@@ -66,15 +66,7 @@ behind_gap : (at f more : ℕ) → at ≤ f + (at - f + more)
 behind_gap at f more = omega arith
 
 pub rises : (w : Word) (n : Object) (at : ℕ) (x : Part) → at ≤ part_begin w n at x
-rises w n at FileHead = omega arith
-rises w n at SegmentHead = omega arith
-rises w n at SectionHeads = omega arith
-rises w n at SymtabHead = omega arith
-rises w n at DysymtabHead = omega arith
-rises w n at (Raw k s) = behind_gap at (contents_begin w n) ((s.align - (at - contents_begin w n) % s.align) % s.align)
-rises w n at (Relocs k s) = aligned_rises (entries_align w (length (relocs_of w n k))) at
-rises w n at SymbolTable = omega arith
-rises w n at StringTable = omega arith
+rises w n at x = grind arith
 
 -- ... which parts are there
 
@@ -100,9 +92,7 @@ abbrev behind_heads : Object → List Part
 behind_heads n = map raw_part (stored_sections n) ++ behind_raw n
 
 tables_there : (n : Object) (k : ℕ) (x : Part) → slice_get table_parts k ≡ Some x → IsPartOf n x
-tables_there n zero x h = subst (IsPartOf n) (same_Some SymbolTable x h) tt
-tables_there n (suc zero) x h = subst (IsPartOf n) (same_Some StringTable x h) tt
-tables_there n (suc (suc k)) x h = absurd (none-some x h)
+tables_there n k x h = grind arith
 
 behind_there : (n : Object) (k : ℕ) (x : Part) → slice_get (behind_heads n) k ≡ Some x → IsPartOf n x
 behind_there n k x here = elim (of_append (map raw_part (stored_sections n)) (behind_raw n) k x here) [
@@ -140,12 +130,10 @@ relocs_is n k s here (Relocs j t) is e =
 relocs_is n k s here x is e = absurd (true≢false (sym e))
 
 symbols_is : (x : Part) → is_symbol_table x ≡ true → x ≡ SymbolTable
-symbols_is SymbolTable e = refl
-symbols_is x e = absurd (true≢false (sym e))
+symbols_is x e = grind arith
 
 strings_is : (x : Part) → is_string_table x ≡ true → x ≡ StringTable
-strings_is StringTable e = refl
-strings_is x e = absurd (true≢false (sym e))
+strings_is x e = grind arith
 
 -- ... where they stand
 

@@ -1,5 +1,5 @@
 -- The symbols that pairs name: each section that is named has its line, and no symbol of the object is taken.
-use Rattle.std.proofs.Common.{◌≡◌, ℕ, Bool, true, false, ◌&&◌, ◌||◌, eqb, length, Option, Some, None, refl, sym, ◌∙◌, ap, subst, inl, inr}
+use Rattle.std.proofs.Common.{◌≡◌, ℕ, Bool, true, false, ◌&&◌, ◌||◌, eqb, length, Option, Some, None, refl, sym, ◌∙◌, ap, subst, inl, inr, arith}
 use Rattle.std.specs.{Prelude.{slice_get, nat_eq}, List.{enumerate_from, filter}, Option.{option_map_or}}
 use Rattle.std.proofs.lemmas.{Bool.{true≢false, eq-eqb, ne_eqb}, Option.{same_Some}}
 use Rattle.oc_base.specs.{declared.format.Word.{Word}, declared.format.Word.TheVariants.{W32, W64}, Formats.{word_for}}
@@ -7,8 +7,7 @@ use Rattle.oc_linking.specs.{declared.terms.Less.{Less}, Keeping.{all}}
 use Rattle.oc_linking.specs.declared.terms.Less.TheVariants as less
 use Rattle.oc_neutral.specs.{declared.section.Section.{Section}, declared.reloc.Reloc.{Reloc}, Mach.SectionSymbols.{names_section, needed_sections}}
 use Rattle.oc_neutral.specs.{Mach.SelfReferences.{is_section, is_long_distance}, Normal.{takes_section}, Objects.{Object, reloc_at}}
-use Rattle.oc_neutral.specs.{Rows.{TakesZero, TakesPlace, TakesGotBase, TakesImageBase, TakesHome, TakesSection, taken_of, same_taken}, Spelling.{written_row}}
-use Rattle.oc_neutral.specs.TargetRelocations.{section_taken}
+use Rattle.oc_neutral.specs.{Rows.{TakesSection, taken_of}, Spelling.{written_row}, TargetRelocations.{section_taken}}
 use Rattle.oc_neutral.specs.declared.reloc.Target.TheVariants as target
 use Rattle.oc_target.specs.Meets.{IsTakenBy}
 use Rattle.oc_shelf.proofs.{ReadingLaws.FirstsLemmas.{any_none}, WritingLaws.MemberLemmas.{none_passes, of_map, of_filter}}
@@ -24,24 +23,16 @@ abbrev pub Needed : Object → ℕ → Type 0
 Needed n k = (i : ℕ) × (slice_get (needed_sections n) i ≡ Some k)
 
 taken_section_is : (l : Less) → taken_of l ≡ TakesSection → (k : ℕ) × (l ≡ less.Section k)
-taken_section_is less.Zero e = absurd (true≢false (ap (λ t. same_taken t TakesZero) e))
-taken_section_is less.Place e = absurd (true≢false (ap (λ t. same_taken t TakesPlace) e))
-taken_section_is less.GotBase e = absurd (true≢false (ap (λ t. same_taken t TakesGotBase) e))
-taken_section_is less.ImageBase e = absurd (true≢false (ap (λ t. same_taken t TakesImageBase) e))
-taken_section_is less.Home e = absurd (true≢false (ap (λ t. same_taken t TakesHome) e))
-taken_section_is (less.Section k) e = (k, refl)
+taken_section_is l e = grind arith
 
 first_names : (a b c : Bool) → a ≡ true → (a || b || c) ≡ true
 first_names a b c e = ap (λ x. x || b || c) e
 
 second_names : (a b c : Bool) → b ≡ true → (a || b || c) ≡ true
-second_names true b c e = refl
-second_names false b c e = ap (λ x. x || c) e
+second_names a b c e = grind arith
 
 third_names : (a b c : Bool) → c ≡ true → (a || b || c) ≡ true
-third_names true b c e = refl
-third_names false true c e = refl
-third_names false false c e = e
+third_names a b c e = grind arith
 
 module _ (w : Word) (n : Object) (is : IsForMach w n) where
   module _ (k at : ℕ) (r : Reloc) (there : reloc_at n k at ≡ Some r) where
@@ -114,8 +105,7 @@ module _ (w : Word) (n : Object) (is : IsForMach w n) where
     pair_free W64 e s second needed = own_differs e j y line of (taken_section s) (needed e)
 
     lone_free : (v : Word) (s : WrittenReloc) → takes_symbol v j (item_of (written_by v n (numbered_lines w n) s None)) ≡ false
-    lone_free W32 s = refl
-    lone_free W64 s = refl
+    lone_free v s = grind arith
 
     reloc_free : (k at : ℕ) (r : Reloc) (there : reloc_at n k at ≡ Some r) → takes_symbol w j (item_of (written_standing w n (numbered_lines w n) (standing w n is k at r there))) ≡ false
     reloc_free k at r there = by (known w n is k at r there).known

@@ -2,12 +2,11 @@
 use Rattle.std.proofs.Common.{◌≡◌, ℕ, zero, suc, ◌+◌, ◌^◌, ◌<◌, ◌≤◌, inl, inr, Bool, true, false, not, ◌&&◌, ◌||◌, cond, [], ◌++◌, length, map, Option, Some, None, refl, sym, ◌∙◌, ap, subst, arith}
 use Rattle.std.specs.{Prelude.{slice_get, nat_lt, nat_eq, is_none, is_some}, List.{range_with_len, AllByRecursion}}
 use Rattle.std.specs.Option.{option_map, option_map_or, option_and_then}
-use Rattle.std.proofs.lemmas.{Bool.{eq-eqb, cases_lt, and_right, and_left}, Bool.Decides.{nat_tests}, Option.{none-some, same_Some}}
+use Rattle.std.proofs.lemmas.{Bool.{eq-eqb, cases_lt, and_right, and_left}, Bool.Decides.{nat_tests}, Option.{none-some}}
 use Rattle.oc_base.specs.{declared.format.Word.{Word}, declared.format.Word.TheVariants.{W32, W64}}
 use Rattle.oc_chains.specs.Lists.{list_of}
 use Rattle.oc_linking.specs.declared.terms.Base.TheVariants as base
-use Rattle.oc_linking.specs.{declared.terms.Width.{Width}, declared.terms.Width.TheVariants.{One, Two, Four, Eight}, FirstFault.{Stage}, Fits.{bytes_of}}
-use Rattle.oc_linking.specs.Keeping.{all}
+use Rattle.oc_linking.specs.{declared.terms.Width.{Width}, FirstFault.{Stage}, Fits.{bytes_of}, Keeping.{all}}
 use Rattle.oc_neutral.specs.{declared.section.Section.{Section}, declared.reloc.Reloc.{Reloc}, declared.reloc.Target.{Target}, Dialects.{is_difference}}
 use Rattle.oc_neutral.specs.{Invariants.{IsThere}, Mach.Relocs.{MachRow, length_of}, Objects.{Object, reloc_at}}
 use Rattle.oc_neutral.specs.Rows.{TakesPlace, TakesSection, same_taken, same_base}
@@ -22,7 +21,7 @@ use Rattle.oc_macho.specs.{Referents.{fit_for, referent_by, referent_in, is_noth
 use Rattle.oc_macho.specs.Tables.{SectionTable, Tables}
 use Rattle.oc_macho.specs.RelocationFaults.{is_lone_second, is_odd_second, is_unknown, are_pair, is_no_pair, span_of, span_at, meets_upto, is_outside, refers_to_nothing, refers_wrongly, is_too_wide, folds_too_wide, form_conditions, target_conditions, last_conditions, item_conditions, entry_conditions, entry_stage, no_stage, relocation_stage, relocation_stages}
 use Rattle.oc_macho.specs.declared.relocation_info.Reference.TheVariants as reference
-use Rattle.oc_macho_file.specs.{Bodies.{WrittenReloc, reference_to, plain_entry}, Lines.{numbered_lines, own_number, symbol_number}, Canonical.{section_header}}
+use Rattle.oc_macho_file.specs.{Bodies.{WrittenReloc, reference_to, plain_entry}, Lines.{numbered_lines, symbol_number}, Canonical.{section_header}}
 use Rattle.oc_macho_file.proofs.{TableLaws.{IsCodable, made_table, made_tables}, CodedLaws.{IsForMach}, SectionLaws.{table_at, length-tables}}
 use Rattle.oc_macho_file.proofs.{ItemLaws.{item_of, begin_of}, RowLaws.{IsPairRow, IsDifferenceRow, IsKnown, KnownAlone, KnownPair}}
 use Rattle.oc_macho_file.proofs.EntryLaws.{written_pair, written_by, meets, entry, known, row_is, standing, first_row, first_is, first_length, first_at, inside, is_stored, has_size, apart_by, places_differ, written_all, IsOfReloc, item_is}
@@ -35,10 +34,7 @@ second_of W32 = 1
 second_of W64 = 0
 
 power_of : (v : Width) → 2 ^ length_of v ≡ bytes_of v
-power_of One = refl
-power_of Two = refl
-power_of Four = refl
-power_of Eight = refl
+power_of v = grind arith
 
 -- bytes that end where others begin have none in common with them
 no_meeting : (a b c d : ℕ) → d ≤ a → spans_meet (a, b) (c, d) ≡ false
@@ -52,9 +48,7 @@ aimed : (t : Tables) (x : RelocationInfo) (a : Aim) → target_in t x ≡ Some a
 aimed t x a h = by (aim_in t x.refers) refl h
   where
     by : (o : Option (Option Aim)) → aim_in t x.refers ≡ o → option_and_then (λ aim. aim) o ≡ Some a → referent_by (aim_in t x.refers) ≡ fit_for a
-    by None e g = absurd (none-some a g)
-    by (Some None) e g = absurd (none-some a g)
-    by (Some (Some b)) e g = ap referent_by e ∙ ap fit_for (same_Some b a g)
+    by o e g = grind arith
 
 module _ (w : Word) (n : Object) (is : IsForMach w n) (fits : IsCodable w n) (k : ℕ) (s : Section) (here : slice_get n.sections k ≡ Some s) where
   abbrev t : Tables
@@ -85,8 +79,7 @@ module _ (w : Word) (n : Object) (is : IsForMach w n) (fits : IsCodable w n) (k 
     second_none none = sym (row_is w n is k at r there (λ y. y.second)) ∙ none
 
     second_some : (v : Word) → IsPairRow v e → x.row.second ≡ Some (second_of v)
-    second_some W32 p = sym (row_is w n is k at r there (λ y. y.second)) ∙ p.0
-    second_some W64 p = sym (row_is w n is k at r there (λ y. y.second)) ∙ p.0
+    second_some v p = grind arith
 
     -- the second of a pair of x86-64 could stand alone
     long_known : IsPairRow W64 e → e.row.taken ≡ TakesSection → (j : ℕ) → is_some (row_for W64 (plain_entry x 0 (reference.Symbol j))) ≡ true
@@ -101,8 +94,7 @@ module _ (w : Word) (n : Object) (is : IsForMach w n) (fits : IsCodable w n) (k 
     pair_known W64 p taken = by r.target
       where
         by : (u : Target) → is_odd_second W64 (plain_entry x 0 (reference_to W64 (numbered_lines w n) u)) ≡ false
-        by (target.Section j) = ap not (long_known p taken (own_number (numbered_lines w n) j))
-        by (target.Symbol j) = ap not (long_known p taken (symbol_number (numbered_lines w n) j))
+        by u = grind arith
 
     no_unknown : is_unknown w own ≡ false
     unfolding is_unknown
@@ -118,13 +110,10 @@ module _ (w : Word) (n : Object) (is : IsForMach w n) (fits : IsCodable w n) (k 
     -- ... pairs
 
     alone_lone : (v : Word) (u : Target) → is_lone_second v (plain_entry x x.row.number (reference_to v (numbered_lines w n) u)) ≡ false
-    alone_lone W32 (target.Section j) = refl
-    alone_lone W32 (target.Symbol j) = refl
-    alone_lone W64 u = refl
+    alone_lone v u = grind arith
 
     pair_lone : (v : Word) (p : IsPairRow v e) → is_lone_second v (item_of (written_pair v n (numbered_lines w n) x (second_of v))).first ≡ false
-    pair_lone W32 p = ap (λ b. b && true) (sym (row_is w n is k at r there (λ y. nat_eq y.number 1)) ∙ p.2)
-    pair_lone W64 p = refl
+    pair_lone v p = grind arith
 
     pair_paired : (v : Word) (p : IsPairRow v e)
         → option_map_or (are_pair v (item_of (written_pair v n (numbered_lines w n) x (second_of v))).first) (item_of (written_pair v n (numbered_lines w n) x (second_of v))).second false ≡ true
@@ -135,8 +124,7 @@ module _ (w : Word) (n : Object) (is : IsForMach w n) (fits : IsCodable w n) (k 
         equal = ap (λ b. b && not (not (nat_eq at at))) (eq-eqb (length_of x.row.width) (length_of x.row.width) refl) ∙ ap (λ b. not (not b)) (eq-eqb at at refl)
 
         by : (u : Target) → are_pair W64 (plain_entry x x.row.number (reference.Symbol 0)) (plain_entry x 0 (reference_to W64 (numbered_lines w n) u)) ≡ true
-        by (target.Section j) = equal
-        by (target.Symbol j) = equal
+        by u = grind arith
 
     no_lone : (known : IsKnown w e) → is_no_pair w own ≡ false
     unfolding is_no_pair
@@ -181,8 +169,7 @@ module _ (w : Word) (n : Object) (is : IsForMach w n) (fits : IsCodable w n) (k 
     told = by (target_in t (target_entry w own)) (sym (ap (option_and_then (λ m. option_map (λ target. record { row = m; target = target; taken = T }) (target_in t (target_entry w own)))) row_read) ∙ given.how_is)
       where
         by : (o : Option Aim) → option_map (λ target. record { row = e; target = target; taken = T }) o ≡ Some given.how → (o ≡ Some given.how.target) × (T ≡ given.how.taken)
-        by None g = absurd (none-some given.how g)
-        by (Some a) g = let same = same_Some (record { row = e; target = a; taken = T }) given.how g in (ap (λ (f : FieldParts). Some f.target) same, ap (λ (f : FieldParts). f.taken) same)
+        by o g = grind arith
 
     target_fit : referent_in t (target_entry w own).refers ≡ fit_for given.how.target
     target_fit = aimed t (target_entry w own) given.how.target told.0
@@ -208,8 +195,7 @@ module _ (w : Word) (n : Object) (is : IsForMach w n) (fits : IsCodable w n) (k 
     alone_refers none = ap (λ o. (target_entry w (item_of (written_by w n (numbered_lines w n) x o))).refers) (second_none none) ∙ by w
       where
         by : (v : Word) → (target_entry v (item_of (written_by v n (numbered_lines w n) x None))).refers ≡ reference_to v (numbered_lines w n) r.target
-        by W32 = refl
-        by W64 = refl
+        by v = grind arith
 
     slot_read : reads_slot (row_for w own.first) ≡ same_base e.row.base base.Slot
     slot_read = ap reads_slot row_read
@@ -218,8 +204,7 @@ module _ (w : Word) (n : Object) (is : IsForMach w n) (fits : IsCodable w n) (k 
     no_slot none = ap (λ y. cannot_be_target (reads_slot (row_for w own.first)) y) target_fit ∙ and_left (reads_slot (row_for w own.first)) _ (slot_read ∙ none)
 
     based : (v : Word) → IsDifferenceRow v e → e.row.base ≡ base.Address
-    based W32 d = d
-    based W64 d = d.0
+    based v d = grind arith
 
     target_fine : (known : IsKnown w e) → cannot_be_target (reads_slot (row_for w own.first)) (referent_in t (target_entry w own).refers) ≡ false
     target_fine (KnownPair p taken d) = no_slot (ap (λ b. same_base b base.Slot) (based w d))
@@ -236,8 +221,7 @@ module _ (w : Word) (n : Object) (is : IsForMach w n) (fits : IsCodable w n) (k 
             ∙ and_right (reads_slot (row_for w own.first)) false refl
           where
             named : (v : Word) → reference_to v (numbered_lines w n) (target.Symbol j) ≡ reference.Symbol (symbol_number (numbered_lines w n) j)
-            named W32 = refl
-            named W64 = refl
+            named v = grind arith
 
     no_wrong : refers_wrongly t own ≡ false
     unfolding refers_wrongly made_tables

@@ -1,11 +1,10 @@
 -- The rows of the tables of Mach-O: what is written by them is read by them.
-use Rattle.std.proofs.Common.{◌≡◌, ℕ, suc, Bool, true, false, ◌&&◌, cond, List, [], ◌∷◌, Some, None, refl, sym, ◌∙◌, ap, inl, inr}
+use Rattle.std.proofs.Common.{◌≡◌, ℕ, suc, Bool, true, false, ◌&&◌, cond, List, [], ◌∷◌, Some, None, refl, sym, ◌∙◌, ap, inl, inr, arith}
 use Rattle.std.specs.{Prelude.{◌⊎◌, slice_get, nat_eq, is_some, find}, List.{AllByRecursion}}
-use Rattle.std.proofs.lemmas.{Bool.{true≢false}, Option.{none-some, same_Some}}
+use Rattle.std.proofs.lemmas.{Bool.{true≢false}, Option.{none-some}}
 use Rattle.oc_base.specs.{declared.format.Word.{Word}, declared.format.Word.TheVariants.{W32, W64}, declared.format.Format.TheVariants.{Mac64}}
 use Rattle.oc_linking.specs.declared.terms.Base.TheVariants as base
-use Rattle.oc_linking.specs.{declared.terms.Check.TheVariants.{Signed}, declared.terms.Hint.{Hint}, declared.terms.Hint.TheVariants.{Plain, Call}}
-use Rattle.oc_linking.specs.declared.terms.Width.TheVariants.{Four, Eight}
+use Rattle.oc_linking.specs.{declared.terms.Check.TheVariants.{Signed}, declared.terms.Hint.{Hint}, declared.terms.Width.TheVariants.{Four, Eight}}
 use Rattle.oc_linking.specs.declared.terms.Less.TheVariants as less
 use Rattle.oc_algebra.specs.declared.form.Form.{Form}
 use Rattle.oc_neutral.specs.Mach.SelfReferences.{is_address, is_place, is_eight, is_long_distance}
@@ -134,8 +133,7 @@ known_entry w number pcrel len m e =
 -- four signed bytes less the place of the field are self-relative, and no pair
 short_row : (hint : Hint) (row : Row) → written_row Mac64 (record { base = base.Address; less = less.Place; width = Four; check = Signed }) hint ≡ Some row → same_taken row.taken TakesSection ≡ false
 unfolding written_row
-short_row Plain row e = ap (λ (x : Row). same_taken x.taken TakesSection) (sym (same_Some _ row e))
-short_row Call row e = ap (λ (x : Row). same_taken x.taken TakesSection) (sym (same_Some _ row e))
+short_row hint row e = grind arith
 
 -- so a pair that is written for a field less its place has eight bytes
 pub long_only : (form : Form) (hint : Hint) (row : Row) → written_row Mac64 form hint ≡ Some row → form.less ≡ less.Place → row.base ≡ form.base → row.width ≡ form.width → row.check ≡ form.check

@@ -4,8 +4,7 @@ use Rattle.std.specs.{Prelude.{slice_get, nat_lt, flat_map}, List.{list_any, sum
 use Rattle.std.proofs.lemmas.{Bool.{ne_eqb}, Option.{slice_get_within}}
 use Rattle.oc_base.specs.{declared.format.Word.{Word}, declared.format.Word.TheVariants.{W32, W64}}
 use Rattle.oc_base.proofs.NumberLaws.{length-table}
-use Rattle.oc_linking.specs.{declared.terms.Kind.{Kind}, declared.terms.Kind.TheVariants.{Code, ReadOnly, Data, Zero, Init, Fini, Debug, Exception, Note}}
-use Rattle.oc_linking.specs.Numbers.{modulus}
+use Rattle.oc_linking.specs.{declared.terms.Kind.{Kind}, declared.terms.Kind.TheVariants.{Zero}, Numbers.{modulus}}
 use Rattle.oc_neutral.specs.{declared.section.Section.{Section}, Building.{is_zero, stored_size}, KindRules.{same_kind}}
 use Rattle.oc_neutral.specs.{Mach.Kinds.{is_comma, is_read_type, is_zerofill_tag, mach_kind, segment_of}, Objects.{Object}}
 use Rattle.oc_neutral.specs.Mach.Kinds as kinds
@@ -50,15 +49,7 @@ counted_low worth size xs each k x here =
     omega (arith, all, e, rest)
 
 same_zero : (k : Kind) → same_kind k Zero ≡ is_zero k
-same_zero Code = refl
-same_zero ReadOnly = refl
-same_zero Data = refl
-same_zero Zero = refl
-same_zero Init = refl
-same_zero Fini = refl
-same_zero Debug = refl
-same_zero Exception = refl
-same_zero Note = refl
+same_zero k = grind arith
 
 module _ (w : Word) (n : Object) (is : IsForMach w n) where
   abbrev t : Tables

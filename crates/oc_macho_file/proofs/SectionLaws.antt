@@ -1,5 +1,5 @@
 -- The sections of a canonical file are those of the object.
-use Rattle.std.proofs.Common.{◌≡◌, ℕ, suc, ◌+◌, ◌-◌, ◌^◌, Bool, true, false, cond, eqb, List, [], ◌∷◌, length, map, replicate, Some, None, refl, sym, ◌∙◌, ap, arith}
+use Rattle.std.proofs.Common.{◌≡◌, ℕ, suc, ◌+◌, ◌-◌, ◌^◌, Bool, false, cond, eqb, List, [], ◌∷◌, length, map, replicate, Some, None, refl, sym, ◌∙◌, ap, arith}
 use Rattle.std.specs.{Prelude.{slice_get}, List.{enumerate_from}, Option.{option_map, option_map_or}}
 use Rattle.std.proofs.lemmas.{Bool.{ne_eqb}, List.{length-map}, List.FromFn.{length-enumerate_from}}
 use Rattle.oc_base.specs.declared.format.Word.{Word}
@@ -68,8 +68,7 @@ module _ (w : Word) (n : Object) (is : IsForMach w n) where
   contents_made k s = by (is_zerofill_tag s.tag)
     where
       by : (b : Bool) → cond b (replicate s.size 0) (cond b [] (raw_of w n k s)) ≡ cond b (replicate s.size 0) (raw_of w n k s)
-      by true = refl
-      by false = refl
+      by b = grind arith
 
   section_made : (number k : ℕ) (s : Section) → slice_get n.sections k ≡ Some s → number ≡ 1 + k → section_of (number, made_table w n (k, s)) ≡ made_section w n (k, s)
   unfolding section_of kind_of section_header framed

@@ -1,5 +1,5 @@
 -- The symbols of the object that is seen are those of the lines.
-use Rattle.std.proofs.Common.{◌≡◌, ℕ, false, List, Option, Some, None, refl, sym, ◌∙◌, ap}
+use Rattle.std.proofs.Common.{◌≡◌, ℕ, false, List, Option, Some, None, refl, ◌∙◌, ap, arith}
 use Rattle.std.specs.{Prelude.{slice_get, filter_map}, Option.{option_map, option_and_then}}
 use Rattle.oc_base.specs.{declared.format.Word.{Word}, declared.format.Word.TheVariants.{W32, W64}, Formats.{word_for}}
 use Rattle.oc_linking.specs.Parts.{is_local}
@@ -51,9 +51,7 @@ module _ (w : Word) (n : Object) where
   symbols_seen = by_lines.symbols_seen (mach_manner w) n line_size counted_line sized (lines_of w n) (lines_counted w n) line_symbol (λ i x here. by x (line_at w n i x here))
     where
       by : (x : Line) → IsLine w n x → line_symbol x ≡ option_and_then (slice_get n.symbols) (counted_line x).shows
-      by (OwnLine k) o = refl
-      by (LocalLine k s) o = sym o.0
-      by (OuterLine k s) o = sym o.0
+      by x o = grind arith
 
   pub are_shown : IsShown n (shown w n)
   are_shown = table_shows n (mach_lines w n) (mach_table n w).table

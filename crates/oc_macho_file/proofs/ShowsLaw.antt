@@ -98,8 +98,7 @@ module _ (w : Word) (n : Object) (is : IsForMach w n) (fits : IsCodable w n) whe
         own = record { target = numbered_target (symbol_number (numbered_lines w n) j); counted = None; place = fixed_place ((shown_there w n is j y at_j outer).binding) }
 
         plain : (v : Word) → aim_in t (reference_to v (numbered_lines w n) (target.Symbol j)) ≡ aim_in t (reference.Symbol (symbol_number (numbered_lines w n) j))
-        plain W32 = refl
-        plain W64 = refl
+        plain v = grind arith
 
         counts : (v : Word) → w ≡ v → IsCounting w n is symbols_read k s here at r there own
         counts W32 e = Short e 0 refl (ap (λ v. entry_target_shift (entry_target_of n v)) to)
@@ -124,8 +123,7 @@ module _ (w : Word) (n : Object) (is : IsForMach w n) (fits : IsCodable w n) whe
         is_short W64 = false
 
         uncounted : (a : Aim) → IsCounting w n is symbols_read k s here at r there a → w ≡ W64 → a.counted ≡ None
-        uncounted a (Long e none) long = none
-        uncounted a (Short e from counted said) long = absurd (true≢false (ap is_short (sym e ∙ long)))
+        uncounted a x long = grind arith
 
         pairs : (v : Word) → w ≡ v → IsPairRow w (entry w n is k at r there) → (entry w n is k at r there).row.taken ≡ TakesSection → IsDifferenceRow w (entry w n is k at r there)
             → IsGivenField w n is symbols_read k s here at r there

@@ -38,8 +38,7 @@ length-section_bytes w h a b =
     ∙ by w (length h.sectname) (length h.segname) a b
   where
     by : (w : Word) (x y : ℕ) → x ≡ 16 → y ≡ 16 → x + (y + widths (section_numbers w h)) ≡ section_header_size w
-    by W32 x y a b = omega (arith, a, b)
-    by W64 x y a b = omega (arith, a, b)
+    by w x y a b = grind arith
 
 pub length-nlist_bytes : (w : Word) (s : Nlist) → length (nlist_bytes w s) ≡ nlist_size w
 unfolding nlist_bytes

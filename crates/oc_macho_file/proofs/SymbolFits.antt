@@ -1,10 +1,9 @@
 -- The numbers of section headers and symbols fit their widths, in a file of fewer than 2^32 bytes.
-use Rattle.std.proofs.Common.{◌≡◌, ℕ, ◌+◌, ◌^◌, ◌<◌, ◌≤◌, ◌⊎◌, inl, inr, Bool, true, false, cond, List, Some, refl, sym, subst, arith}
+use Rattle.std.proofs.Common.{◌≡◌, ℕ, ◌+◌, ◌^◌, ◌<◌, ◌≤◌, ◌⊎◌, inl, inr, Bool, cond, List, Some, refl, sym, subst, arith}
 use Rattle.std.specs.Prelude.{slice_get}
 use Rattle.oc_base.specs.{declared.format.Word.{Word}, declared.format.Word.TheVariants.{W32, W64}}
 use Rattle.oc_linking.specs.{Numbers.{modulus}, declared.terms.Binding.{Binding}, declared.terms.Binding.TheVariants.{Local, Global, Undefined, Common, Weak}}
 use Rattle.oc_linking.specs.{declared.terms.Value.{Value}, declared.terms.Visibility.{Visibility}}
-use Rattle.oc_linking.specs.declared.terms.Visibility.TheVariants.{Default, Internal, Hidden, Protected}
 use Rattle.oc_linking.specs.declared.terms.Fallback.TheVariants as fallback
 use Rattle.oc_linking.specs.declared.terms.Value.TheVariants as value
 use Rattle.oc_neutral.specs.{declared.symbol.Symbol.{Symbol}, Invariants.{IsValue, IsBinding, HasOffset}, Objects.{Object}}
@@ -21,21 +20,13 @@ use Rattle.oc_macho_file.proofs.{CodedLaws.{IsForMach, IsPlaced, symbol_is, fall
 use Rattle.oc_macho_file.proofs.{NameLaws.{needed_low}, AddressLaws.{memory_low, address_low}}
 
 modulus_high : (w : Word) → 2 ^ 32 ≤ modulus w
-modulus_high W32 = omega arith
-modulus_high W64 = omega arith
+modulus_high w = grind arith
 
 private_low : (v : Visibility) → private_flag v ≤ 16
-private_low Default = omega arith
-private_low Internal = omega arith
-private_low Hidden = omega arith
-private_low Protected = omega arith
+private_low v = grind arith
 
 external_low : (b : Binding) → external_flag b ≤ 1
-external_low (Local v) = omega arith
-external_low (Global v) = omega arith
-external_low Undefined = omega arith
-external_low (Common size align) = omega arith
-external_low (Weak f) = omega arith
+external_low b = grind arith
 
 module _ (w : Word) (n : Object) (is : IsForMach w n) (names : (name : List ℕ) → offset_in (line_names w n) name < 2 ^ 32) where
   -- where a symbol stands
@@ -83,8 +74,7 @@ module _ (w : Word) (n : Object) (is : IsForMach w n) (names : (name : List ℕ)
   desc_low k s here (Weak f) own = by (weak.is_zero f)
     where
       by : (b : Bool) → cond b 64 128 < 2 ^ 16
-      by true = omega arith
-      by false = omega arith
+      by b = grind arith
 
   entry_fits : (y : Nlist) → y.n_strx < 2 ^ 32 → y.n_type < 256 → y.n_sect < 256 → y.n_desc < 2 ^ 16 → y.n_value < modulus w → Fit (nlist_numbers w y)
   entry_fits y a b c d e = by w e

@@ -1,8 +1,8 @@
 -- The symbols of a canonical file are those that are seen of the object.
-use Rattle.std.proofs.Common.{◌≡◌, ℕ, zero, suc, ◌+◌, ◌-◌, ◌*◌, ◌/◌, ◌%◌, ◌^◌, ◌<◌, ◌≤◌, ◌⊎◌, inl, inr, Bool, true, false, not, ◌&&◌, ◌||◌, cond, eqb, List, [], ◌∷◌, length, map, Option, Some, None, refl, sym, ◌∙◌, ap, subst, arith}
+use Rattle.std.proofs.Common.{◌≡◌, ℕ, suc, ◌+◌, ◌-◌, ◌*◌, ◌/◌, ◌%◌, ◌^◌, ◌<◌, ◌≤◌, ◌⊎◌, inl, inr, Bool, true, false, not, ◌&&◌, ◌||◌, cond, eqb, List, [], ◌∷◌, length, map, Option, Some, None, refl, sym, ◌∙◌, ap, subst, arith}
 use Rattle.std.specs.{Prelude.{slice_get, nat_lt, nat_eq, bytes_eq, is_none, filter_map}, List.{cons_option, enumerate_from}}
 use Rattle.std.specs.Option.{option_map, option_map_or, unwrap_or}
-use Rattle.std.proofs.lemmas.{Bool.{true≢false, ne_eqb, eq-eqb, and_right}, Bool.Decides.{nat_tests}}
+use Rattle.std.proofs.lemmas.{Bool.{true≢false, ne_eqb, and_right}, Bool.Decides.{nat_tests}}
 use Rattle.oc_base.specs.{declared.format.Word.{Word}, declared.format.Word.TheVariants.{W32, W64}}
 use Rattle.oc_linking.specs.{declared.terms.Mark.TheVariants.{NoType}, declared.terms.Visibility.{Visibility}}
 use Rattle.oc_linking.specs.{declared.terms.Visibility.TheVariants.{Default, Internal, Hidden, Protected}, declared.terms.Value.{Value}}
@@ -188,8 +188,7 @@ module _ (w : Word) (n : Object) (is : IsForMach w n) where
   fallback_shown k s here g own = by (fallback_is w n is k s here g own)
     where
       by : (g ≡ fallback.Zero) ⊎ IsPlaced w n g → shown_fallback (syms w n) (seen_fallback (mach_manner w) n (shown w n) g) ≡ seen_fallback (mach_manner w) n (shown w n) g
-      by (inl e) = ap (λ h. shown_fallback (syms w n) (seen_fallback (mach_manner w) n (shown w n) h)) e ∙ ap (seen_fallback (mach_manner w) n (shown w n)) (sym e)
-      by (inr p) = ap (shown_fallback (syms w n)) (p.seen (shown w n)) ∙ sym (p.seen (shown w n))
+      by x = grind arith
 
   binding_shown : (k : ℕ) (s : Symbol) → slice_get n.symbols k ≡ Some s → (b : Binding) → s.binding ≡ b → shown_binding (syms w n) (again_binding b) ≡ again_binding b
   binding_shown k s here (Local v) own = refl
@@ -209,12 +208,10 @@ module _ (w : Word) (n : Object) (is : IsForMach w n) where
       (ap (λ u. is_written_as (mach_format u) s.name (Local a)) (sym (e ∙ long)) ∙ ap (λ f. is_written_as f s.name (Local a)) (sym is.format) ∙ ap (is_written_as n.format s.name) (sym b) ∙ written)
     where
       not_true : (b : Bool) → not b ≡ true → b ≡ false
-      not_true true e = absurd (true≢false (sym e))
-      not_true false e = refl
+      not_true b e = grind arith
 
   start_test : (a offset : ℕ) → eqb (a + offset) a ≡ eqb offset 0
-  start_test a zero = let e : a + 0 ≡ a = omega arith in eq-eqb (a + 0) a e
-  start_test a (suc offset) = ne_eqb (a + suc offset) a (λ e. omega (arith, e)) ∙ sym (ne_eqb (suc offset) 0 (λ e. omega (arith, e)))
+  start_test a offset = grind arith
 
   local_not_own : (s : Symbol) (y : Nlist) (v : Value) → IsValue n v → name_of t y ≡ s.name → is_start_named s.name v ≡ false
       → y ≡ raw y.n_strx ((value_fields_by n v).type + 0 + 0) (value_fields_by n v).n_sect 0 (value_fields_by n v).n_value → is_own_in W64 t y ≡ false
@@ -278,8 +275,7 @@ module _ (w : Word) (n : Object) (is : IsForMach w n) where
       ∙ ap (λ q. made true s.name (shown_binding (syms w n) (again_binding s.binding)) (mach_vis s.binding s.vis) q) free
     where
       or_true : (b : Bool) → (b || true) ≡ true
-      or_true true = refl
-      or_true false = refl
+      or_true b = grind arith
 
   -- the symbol of a section is not carried
   own_none : (i k : ℕ) → slice_get (lines_of w n) i ≡ Some (OwnLine k) → IsLine w n (OwnLine k) → (p : Bool) → symbol_of t p i (line_entry w n (OwnLine k)) ≡ None
@@ -290,9 +286,7 @@ module _ (w : Word) (n : Object) (is : IsForMach w n) where
       by (is_stab y) (is_own t y) (own_is w n is own.0 k i s.0 here s.1) (is_external y || not (bytes_eq (name_of t y) [])) _
     where
       by : (a b : Bool) → b ≡ true → (c : Bool) (o : Option parts.Symbol) → cond (not a && not b && c) o None ≡ None
-      by true true e c o = refl
-      by false true e c o = refl
-      by a false e c o = absurd (true≢false (sym e))
+      by a b e c o = grind arith
 
   -- what is read of a line
   abbrev pub read_line : ℕ → Line → Option (parts.Symbol)
@@ -324,9 +318,7 @@ module _ (w : Word) (n : Object) (is : IsForMach w n) where
       (laid_read (i + 1) ls (λ k y h. let e : i + suc k ≡ i + 1 + k = omega arith in subst (λ j. symbol_of t (is_pinned t all j) j (line_entry w n y) ≡ read_line j y) e (each (suc k) y h)))
     where
       same : (x : Line) → read_line i x ≡ option_map (shown_symbol (syms w n)) (seen_line w n (record { at = i; part = x }))
-      same (OwnLine k) = refl
-      same (LocalLine k s) = refl
-      same (OuterLine k s) = refl
+      same x = grind arith
 
   -- the symbols
   pub symbols_are : symbols_in t all ≡ map (shown_symbol (syms w n)) (syms w n)

@@ -148,8 +148,7 @@ module _ (w : Word) (n : Object) (fits : IsCodable w n) where
   symtab_found = found_is 2 ∙ by w ∙ ap Some second_place
     where
       by : (v : Word) → or_else (or_else (or_else None (cond (nat_eq (segment_number v) 2) (Some (mach_header_size w)) None)) (Some (command_place w file 1))) None ≡ Some (command_place w file 1)
-      by W32 = refl
-      by W64 = refl
+      by v = grind arith
 
   pub symtab_command_read : symtab_of w file ≡ Some (symtab_command w n)
   symtab_command_read = ap (option_map (symtab_command_at file)) symtab_found ∙ ap Some (symtab_stands file (symtab_at w n) (symtab_command w n) (stands_symtab w n) fits.symtab)

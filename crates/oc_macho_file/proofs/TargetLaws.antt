@@ -2,7 +2,7 @@
 use Rattle.std.proofs.Common.{◌≡◌, ℕ, ◌+◌, ◌-◌, ◌%◌, false, cond, List, [], Some, None, refl, sym, ◌∙◌, ap, arith}
 use Rattle.std.specs.{Prelude.{slice_get}, Option.{option_map, option_and_then, unwrap_or}}
 use Rattle.std.proofs.lemmas.Bool.{true≢false}
-use Rattle.oc_base.specs.{declared.format.Word.{Word}, declared.format.Word.TheVariants.{W32, W64}}
+use Rattle.oc_base.specs.declared.format.Word.{Word}
 use Rattle.oc_linking.specs.{declared.terms.Base.{Base}, Keeping.{all}, Numbers.{modulus}, Parts.{is_local}, Placing.{Placement}, Targets.{symbol_target}}
 use Rattle.oc_linking.specs.Values.{Valuation}
 use Rattle.oc_linking.specs.declared.terms.Base.TheVariants as base
@@ -30,14 +30,10 @@ unfolding place_among
 section_target w f b n j = record { named = refl; bases = λ p v fixed c. by p c }
   where
     same : (w : Word) (a : ℕ) → (a + 0) % modulus w % modulus w ≡ a % modulus w
-    same W32 a = omega arith
-    same W64 a = omega arith
+    same w a = grind arith
 
     by : (p : Placement) (c : Base) → base_of p ((place_target w j 0).worth p (λ i. record { site = p.site j; slot = 0 })) c % modulus w ≡ base_of p (record { site = p.site j; slot = 0 }) c % modulus w
-    by p base.Address = same w (p.site j).address
-    by p base.Slot = refl
-    by p base.GotBase = refl
-    by p base.HomeNumber = refl
+    by p c = grind arith
 
 module _ (w : Word) (n : Object) (is : IsForMach w n) (j : ℕ) (s : Symbol) (there : slice_get n.symbols j ≡ Some s) (outer : is_local s.binding ≡ false) where
   abbrev t : Tables

@@ -1,7 +1,7 @@
 -- The canonical file of an object that is ready for Mach-O is well formed and shows the object that is seen.
-use Rattle.std.proofs.Common.{◌≡◌, List, ◌∷◌, ℕ, None, refl, sym, subst}
+use Rattle.std.proofs.Common.{◌≡◌, List, ◌∷◌, ℕ, None, sym, subst, arith}
 use Rattle.std.specs.List.{AllByRecursion}
-use Rattle.oc_base.specs.{declared.format.Word.{Word}, declared.format.Word.TheVariants.{W32, W64}}
+use Rattle.oc_base.specs.declared.format.Word.{Word}
 use Rattle.oc_linking.specs.Keeping.{all}
 use Rattle.oc_neutral.specs.{Objects.{Object}, Dialects.{IsDialect}}
 use Rattle.oc_shelf.proofs.ReadingLaws.StageLemmas.{IsUnbroken, no_first_fault}
@@ -13,8 +13,7 @@ use Rattle.oc_macho_file.proofs.{SymbolClean.{symbols_clean}, RelocationClean.{r
 
 -- the rules of Mach-O have the word and the alignments of its format
 pub mach_is_dialect : (w : Word) → IsDialect (mach_dialect w)
-mach_is_dialect W32 = record { word = refl; output_align = λ align. refl; common_align = λ size align. refl }
-mach_is_dialect W64 = record { word = refl; output_align = λ align. refl; common_align = λ size align. refl }
+mach_is_dialect w = grind arith
 
 module _ (w : Word) (n : Object) (is : IsForMach w n) (fits : IsCodable w n) where
   abbrev file : List ℕ

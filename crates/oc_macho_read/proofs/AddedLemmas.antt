@@ -3,8 +3,7 @@ use Rattle.std.proofs.Common.{Bool, List, None, Option, Some, [], ap, arith, con
 use Rattle.std.proofs.lemmas.{List.{length-map}, Option.{none-some, same_Some, slice_get-map, slice_get_within}}
 use Rattle.std.specs.Option.{option_and_then, option_map, option_map_or, unwrap_or}
 use Rattle.oc_base.specs.declared.format.Word.{Word}
-use Rattle.oc_linking.specs.{FirstFault.{stage_fault}, Fits.{bytes_of}, declared.terms.Binding.TheVariants.{Common, Global, Local, Undefined, Weak}}
-use Rattle.oc_linking.specs.{declared.terms.Binding.{Binding}, declared.terms.Keep.{Keep}}
+use Rattle.oc_linking.specs.{FirstFault.{stage_fault}, Fits.{bytes_of}, declared.terms.Binding.{Binding}, declared.terms.Keep.{Keep}}
 use Rattle.oc_macho.specs.{Aims.{aim_in, fixed_place, target_in}, Entries.{is_pinned, taken_entry, target_entry}, Fields.{taken_section}}
 use Rattle.oc_macho.specs.{Rules.{mach_dialect, symbols_in}, Sections.{is_zerofill, kind_of, section_of, sections_in}, SymbolFaults.{symbol_stage}}
 use Rattle.oc_macho.specs.{Symbols.{binding_of, is_carried, is_type, offset_of}, Tables.{SectionTable, Tables, tables_of}}
@@ -12,13 +11,12 @@ use Rattle.oc_macho.specs.{declared.constants.TheConstants.{N_ABS, N_UNDF}, decl
 use Rattle.oc_macho.specs.{declared.relocation_info.Reference.{Reference}, declared.section_header.SectionHeader.{SectionHeader}}
 use Rattle.oc_macho_read.proofs.{AimLemmas.{Carried, IsAim, IsNamed, IsSectional, Own, ToAddress, ToSection, ToSymbol, aim_is}, FitLemmas.{differences_fit}}
 use Rattle.oc_macho_read.proofs.ItemLemmas.{IsGoodItem, IsTaken, Nothing, Something, found_as, row_width, taken_is}
-use Rattle.oc_macho_read.proofs.{SectionedLemmas.{at_most, length-sections_in, section_there}, ShownLemmas.{zero_kind}}
+use Rattle.oc_macho_read.proofs.{SectionedLemmas.{length-sections_in, section_there}, ShownLemmas.{zero_kind}}
 use Rattle.oc_macho_read.proofs.StandingLemmas.{IsStanding, are_apart, are_of_file, given_same, given_standing}
 use Rattle.oc_macho_read.proofs.SymbolLemmas.{IsSoundSymbol, as_computed, as_part, carried_at, each_binding, each_outer, has_home, known_section, left_at, local_defined, not_stab, sound_symbol, symbol_stands, symbols_are}
 use Rattle.oc_macho_read.specs.{Adding.{IsClean}, Built.{started, symbol_as}, Given.{IsTakeable, given_at, target_for}}
 use Rattle.oc_neutral.specs.{Building.{Draft, is_zero}, Invariants.{CanAdd, IsLessThere, IsTargetThere}, Normal.{Place, local_place, place_among, place_of}}
-use Rattle.oc_neutral.specs.{Rows.{Taken, TakesGotBase, TakesHome, TakesImageBase, TakesPlace, TakesSection, TakesZero}, declared.reloc.Reloc.{Reloc}}
-use Rattle.oc_neutral.specs.declared.symbol.Symbol.{Symbol}
+use Rattle.oc_neutral.specs.{Rows.{Taken}, declared.reloc.Reloc.{Reloc}, declared.symbol.Symbol.{Symbol}}
 use Rattle.oc_shows.specs.{Built.{IsStarted}, Computed.{computed_symbol, position_of}, Started.{stored_section}}
 use Rattle.oc_linking.specs.Parts as parts
 use Rattle.oc_linking.specs.declared.terms.Value.TheVariants as value
@@ -49,11 +47,7 @@ binding_low t j s sound place =
         subst (λ (q : Place). q.0 < length t.sections) (same_Some (s.n_sect - 1, offset_of t s) place e) low
 
 local_fixed : (b : Binding) (place : Place) → local_place b ≡ Some place → fixed_place b ≡ Some place
-local_fixed (Local v) place e = e
-local_fixed (Global v) place e = absurd (none-some place e)
-local_fixed Undefined place e = absurd (none-some place e)
-local_fixed (Common size align) place e = absurd (none-some place e)
-local_fixed (Weak f) place e = absurd (none-some place e)
+local_fixed b place e = grind arith
 
 module _ (t : Tables) (symbols : stage_fault (symbol_stage t) ≡ None) where
   sectional_low : (j : ℕ) (a : aims.Aim) → IsSectional t j a → (place : Place) → a.place ≡ Some place → place.0 < length t.sections
@@ -137,12 +131,7 @@ module _ (w : Word) (file : List ℕ) (keep : Keep) (clean : IsClean (tables_of 
           (subst (λ (o : Option ℕ). IsTargetThere base.object (target.Section (unwrap_or o 0 - 1))) (sym held) (sectional (k - 1) m))
 
   less_low : (l : Taken) (k : ℕ) → k < length base.object.sections → IsLessThere base.object (rows.less_of l k)
-  less_low TakesZero k low = tt
-  less_low TakesPlace k low = tt
-  less_low TakesGotBase k low = tt
-  less_low TakesImageBase k low = tt
-  less_low TakesHome k low = tt
-  less_low TakesSection k low = low
+  less_low l k low = grind arith
 
   module _ (start : IsStarted (mach_dialect w) file keep base) where
     abbrev pub Standing : ℕ → ℕ → Type 0
@@ -165,9 +154,7 @@ module _ (w : Word) (file : List ℕ) (keep : Keep) (clean : IsClean (tables_of 
     inside_by h item e = of (is_zerofill h) (nat_lt h.size (item.first.r_address + 2 ^ item.first.r_length)) refl refl e
       where
         of : (a c : Bool) → is_zerofill h ≡ a → nat_lt h.size (item.first.r_address + 2 ^ item.first.r_length) ≡ c → (a || c) ≡ false → (is_zerofill h ≡ false) × (item.first.r_address + 2 ^ item.first.r_length ≤ h.size)
-        of false false f g x = (f, at_most h.size (item.first.r_address + 2 ^ item.first.r_length) g)
-        of true c f g x = absurd (true≢false x)
-        of false true f g x = absurd (true≢false x)
+        of a c f g x = grind arith
 
     -- a relocation can be added before any other
     can_base : (s at : ℕ) (r : Reloc) → given_at t keep s at ≡ Some r → CanAdd base.object s at r

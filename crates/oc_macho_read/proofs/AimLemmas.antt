@@ -23,10 +23,7 @@ use Rattle.oc_macho.specs.declared.relocation_info.Reference.TheVariants as refe
 use Rattle.oc_macho.specs.Aims as aims
 
 pub zero_moved : (b : Base) (a : ℤ) → moved_addend b a 0 ≡ a
-zero_moved base.Address a = +ℤ_idr a
-zero_moved base.Slot a = refl
-zero_moved base.GotBase a = refl
-zero_moved base.HomeNumber a = refl
+zero_moved b a = grind arith
 
 pub zero_less : (a : ℤ) → a -ℤ pos 0 ≡ a
 zero_less a = +ℤ_idr a
@@ -36,9 +33,7 @@ own_left : (t : Tables) (s : Nlist) → is_own t s ≡ true → is_carried t s �
 own_left t s own = by (is_stab s) (is_own t s) (is_external s || not (bytes_eq (name_of t s) [])) own
   where
     by : (a b c : Bool) → b ≡ true → (not a && not b && c) ≡ false
-    by true b c e = refl
-    by false true c e = refl
-    by false false c e = absurd (true≢false (sym e))
+    by a b c e = grind arith
 
 -- what a reference to a carried symbol is
 pub record IsSymbolic (t : Tables) (j : ℕ) (a : aims.Aim) : Type 0 where
@@ -74,11 +69,7 @@ unfolding is_own
 own_home t s own = by_word t.word own
   where
     fourth : (a b c d e : Bool) → (a && b && c && d && e) ≡ true → d ≡ true
-    fourth true true true true e f = refl
-    fourth true true true false e f = absurd (true≢false (sym f))
-    fourth true true false d e f = absurd (true≢false (sym f))
-    fourth true false c d e f = absurd (true≢false (sym f))
-    fourth false b c d e f = absurd (true≢false (sym f))
+    fourth a b c d e f = grind arith
 
     by : (b : Bool) (o : Option SectionTable) → slice_get t.sections (s.n_sect - 1) ≡ o → nat_eq s.n_sect 0 ≡ b
         → option_map_or (λ (h : SectionHeader). nat_eq s.n_value h.addr) (cond b None (option_map (λ (x : SectionTable). x.header) o)) false ≡ true

@@ -1,5 +1,5 @@
 -- The symbols of a file without faults, added one after the other.
-use Rattle.std.proofs.Common.{List, None, Ok, Option, Some, [], ap, arith, bytes_eq, cond, false, inl, inr, length, map, not, refl, slice_get, suc, sym, true, true≢false, zero, ℕ, ◌&&◌, ◌+◌, ◌<◌, ◌∙◌, ◌∷◌, ◌≡◌, ◌≢◌, ◌≤◌, ◌⊎◌}
+use Rattle.std.proofs.Common.{List, None, Ok, Option, Some, [], ap, arith, bytes_eq, cond, false, length, map, not, refl, slice_get, suc, sym, true, true≢false, zero, ℕ, ◌&&◌, ◌+◌, ◌<◌, ◌∙◌, ◌∷◌, ◌≡◌, ◌≢◌, ◌≤◌, ◌⊎◌}
 use Rattle.std.proofs.lemmas.{Bool.{cases_eq}, List.{length-map, map-append}, Option.{slice_get-map, slice_get_within}, Slice.Eq.{bytes_eq-Decides}}
 use Rattle.std.specs.{Option.{option_and_then, option_flatten, option_map, option_map_or}, Prelude.{is_some}}
 use Rattle.oc_linking.specs.{FirstFault.{stage_fault}, Numbers.{first_upto, or_else}, Parts.{is_local}, declared.terms.Keep.{Keep}}
@@ -26,9 +26,7 @@ first_some item zero j x low is = absurd (omega (arith, low))
 first_some {X} item (suc n) j x low is = by (first_upto item n) refl (cases_eq j n) (λ below. first_some item n j x below is)
   where
     by : (o : Option X) → first_upto item n ≡ o → (j ≡ n) ⊎ (j ≢ n) → (j < n → is_some (first_upto item n) ≡ true) → is_some (or_else o (item n)) ≡ true
-    by (Some y) e c rest = refl
-    by None e (inl same) rest = ap is_some (ap item (sym same) ∙ is)
-    by None e (inr other) rest = absurd (true≢false (sym (rest (omega (arith, low, other))) ∙ ap is_some e))
+    by o e c rest = grind arith
 
 repeats_there : (names : repeats.NameList) (j k : ℕ) (name : List ℕ) → j < k → repeats.name_at names j ≡ Some name → repeats.name_at names k ≡ Some name → is_some (repeats.repeat_at names k) ≡ true
 repeats_there names j k name less at_j at_k =
@@ -38,8 +36,7 @@ repeats_there names j k name less at_j at_k =
     (ap (λ (o : Option (List ℕ)). cond (option_map_or (bytes_eq name) o false) (Some j) None) at_j ∙ ap (λ b. cond b (Some j) None) ((bytes_eq-Decides name name).1 refl))
   where
     mapped : (o : Option ℕ) → is_some (option_map {U = Repeat} (λ place. record { earlier = place; later = k }) o) ≡ is_some o
-    mapped None = refl
-    mapped (Some place) = refl
+    mapped o = grind arith
 
 public_at : (t : Tables) (k : ℕ) (s : Nlist) → slice_get t.symbols k ≡ Some s → is_stab s ≡ false → is_external s ≡ true → repeats.name_at (rules.public_names t) k ≡ Some (name_of t s)
 public_at t k s here stab external =

@@ -117,8 +117,7 @@ nul_append [] ys e f = f
 nul_append (x ∷ xs) ys e f = by (nat_eq 0 x) e (nul_append xs ys)
   where
     by : (b : Bool) → (b || has_nul xs) ≡ false → (has_nul xs ≡ false → has_nul ys ≡ false → has_nul (xs ++ ys) ≡ false) → (b || has_nul (xs ++ ys)) ≡ false
-    by true e rest = absurd (true≢false e)
-    by false e rest = rest e f
+    by b e rest = grind arith
 
 comma_place : (seg sec : List ℕ) → list_any kinds.is_comma seg ≡ false → position_or_len kinds.is_comma (seg ++ 44 ∷ sec) ≡ length seg
 comma_place [] sec e = refl
@@ -149,8 +148,7 @@ any_comma [] sec = refl
 any_comma (x ∷ seg) sec = ap (λ b. kinds.is_comma x || b) (any_comma seg sec) ∙ right (kinds.is_comma x)
   where
     right : (b : Bool) → (b || true) ≡ true
-    right true = refl
-    right false = refl
+    right b = grind arith
 
 named_so : (seg sec : List ℕ) → list_any kinds.is_comma seg ≡ false → length seg ≤ 16 → length sec ≤ 16 → is_mach_name (kinds.mach_name seg sec) ≡ true
 named_so seg sec e short small =
@@ -161,23 +159,16 @@ named_so seg sec e short small =
     below a b l = grind (arith, nat_tests)
 
     three : (a b c : Bool) → a ≡ true → b ≡ true → c ≡ true → (a && b && c) ≡ true
-    three true true true d e f = refl
-    three true true false d e f = absurd (true≢false (sym f))
-    three true false c d e f = absurd (true≢false (sym e))
-    three false b c d e f = absurd (true≢false (sym d))
+    three a b c d e f = grind arith
 
 neither : (a b : Bool) → (a || not b) ≡ false → (a ≡ false) × (b ≡ true)
-neither false true e = (refl, refl)
-neither true b e = absurd (true≢false e)
-neither false false e = absurd (true≢false e)
+neither a b e = grind arith
 
 gives_is : (w : Word) (kind : Kind) (name : List ℕ) (tag : ℕ) → can_have (mach_format w) kind name tag ≡ (mach_family w).gives kind name tag
-gives_is W32 kind name tag = refl
-gives_is W64 kind name tag = refl
+gives_is w kind name tag = grind arith
 
 blank_is : (w : Word) (tag : ℕ) → is_blank_type (mach_format w) tag ≡ is_zerofill_tag tag
-blank_is W32 tag = refl
-blank_is W64 tag = refl
+blank_is w tag = grind arith
 
 zeros_all : (n : ℕ) → AreZeros (replicate n 0)
 zeros_all zero = tt

@@ -92,8 +92,7 @@ module _ (w : Word) (b : List ℕ) (keep : Keep) where
       sym (ap (taken_address w p v) m.is) ∙ by (p.discarded j) ∙ ap (λ (q : Place). reduced w ((p.site q.0).address + q.1)) (same_Some (j, 0) place same)
     where
       by : (c : Bool) → cond c (place_site w p j 0).address (place_site w p j 0).address ≡ reduced w ((p.site j).address + 0)
-      by true = refl
-      by false = refl
+      by c = grind arith
 
   -- what is taken lies where the file places it
   pub taken_lies : (r : Reference) (m : IsTakeable t r) → ((j : ℕ) → r ≡ reference.Symbol j → is_pinned t keep j ≡ true) → (p : Placement) (v : Valuation) → Fixed p v

@@ -1,13 +1,12 @@
 -- The differences of a file without faults fit.
 use Rattle.std.proofs.Common.{Bool, List, None, Option, Some, ap, arith, false, not, pos, refl, subst, sym, true, true≢false, ℕ, ℤ, ◌%◌, ◌&&◌, ◌+◌, ◌-ℤ◌, ◌∙◌, ◌≡◌}
-use Rattle.std.proofs.lemmas.{Bool.{eqb-true, not-false}, Option.{same_Some}}
+use Rattle.std.proofs.lemmas.{Bool.{not-false}, Option.{same_Some}}
 use Rattle.std.specs.{Option.{option_and_then, option_map_or}, Prelude.{is_some, ◌+ℤ◌}}
 use Rattle.oc_algebra.proofs.Laws.{residue_add, residue_less, residue_nat}
 use Rattle.oc_algebra.specs.Residues.{residue_of}
-use Rattle.oc_base.specs.{declared.format.Word.TheVariants.{W32, W64}, declared.format.Word.{Word}}
-use Rattle.oc_linking.specs.{FirstFault.{first_fault}, Fits.{fits}, Numbers.{minus, modulus, reduced}, Placing.{zeros}}
-use Rattle.oc_linking.specs.{Rules.{Field, Named, Sectional, Symbolic}, Values.{Valuation}, declared.terms.Base.{Base}, declared.terms.Keep.{Keep}}
-use Rattle.oc_linking.specs.declared.terms.Less.{Less}
+use Rattle.oc_base.specs.declared.format.Word.{Word}
+use Rattle.oc_linking.specs.{FirstFault.{first_fault}, Fits.{fits}, Numbers.{minus, modulus, reduced}, Placing.{zeros}, Rules.{Field, Named, Sectional}}
+use Rattle.oc_linking.specs.{Values.{Valuation}, declared.terms.Base.{Base}, declared.terms.Keep.{Keep}, declared.terms.Less.{Less}}
 use Rattle.oc_macho.specs.{Aims.{target_in}, Entries.{is_first, taken_entry, target_entry}}
 use Rattle.oc_macho.specs.{Fields.{FieldParts, added_by, field_of, number_of, taken_address, taken_at, taken_section}, RelocationFaults.{beyond}}
 use Rattle.oc_macho.specs.{Rules.{mach_dialect, symbols_in}, Tables.{SectionTable, Tables, tables_of}, declared.relocation_info.Reference.{Reference}}
@@ -33,16 +32,7 @@ pub record IsCancelled (b : Base) (l : Named) (m : Less) : Type 0 where
   pub less_is : m ≡ less.Section section
 
 cancelled : (b : Base) (l : Named) (m : Less) → cancels b (target_by l) m ≡ true → IsCancelled b l m
-cancelled base.Address (Sectional k) (less.Section j) e = record { section = k; base_is = refl; named_is = refl; less_is = ap less.Section (sym (eqb-true k j e)) }
-cancelled base.Address (Sectional k) less.Zero e = absurd (true≢false (sym e))
-cancelled base.Address (Sectional k) less.Place e = absurd (true≢false (sym e))
-cancelled base.Address (Sectional k) less.GotBase e = absurd (true≢false (sym e))
-cancelled base.Address (Sectional k) less.ImageBase e = absurd (true≢false (sym e))
-cancelled base.Address (Sectional k) less.Home e = absurd (true≢false (sym e))
-cancelled base.Address (Symbolic k) m e = absurd (true≢false (sym e))
-cancelled base.Slot l m e = absurd (true≢false (sym e))
-cancelled base.GotBase l m e = absurd (true≢false (sym e))
-cancelled base.HomeNumber l m e = absurd (true≢false (sym e))
+cancelled b l m e = grind arith
 
 -- a row that takes a section
 less_section : (x : Taken) (k j : ℕ) → rows.less_of x k ≡ less.Section j → (x ≡ TakesSection) × (k ≡ j)
@@ -58,8 +48,7 @@ less_section TakesHome k j e = absurd (cc)
 
 -- with all sections at 0, a difference is its constant
 constant_by : (w : Word) (R o q : ℕ) → minus w (reduced w (0 + o) + R) (reduced w (0 + q) + 0) ≡ (R + minus w (o % modulus w) q) % modulus w
-constant_by W32 R o q = omega arith
-constant_by W64 R o q = omega arith
+constant_by w R o q = grind arith
 
 constant_residue : (w : Word) (A : ℤ) (o q : ℕ) → minus w (reduced w (0 + o) + residue_of w A) (reduced w (0 + q) + 0) ≡ residue_of w (A +ℤ (pos o -ℤ pos q))
 constant_residue w A o q =
@@ -88,8 +77,7 @@ module _ (w : Word) (b : List ℕ) (keep : Keep) (n : Object) (shown : shown_sym
       ∙ ap (λ (o : Option aims.Aim). option_map_or (λ a. not (fits t.word x.row.row.width x.row.row.check (residue_of t.word (faults.constant_of t s c at x a)))) o false) taken) ∙ none)
     where
       last : (b : Bool) → (true && b) ≡ b
-      last true = refl
-      last false = refl
+      last b = grind arith
 
   not_wide : (s at : ℕ) (m : IsStanding w b keep n shown clean s at) → faults.folds_too_wide t s m.c at (found_as t s m.c m.begun.k m.item m.good) ≡ false
   unfolding faults.is_too_wide

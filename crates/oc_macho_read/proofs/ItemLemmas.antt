@@ -1,10 +1,10 @@
 -- The fields of a section without faults.
-use Rattle.std.proofs.Common.{Bool, List, None, Option, Some, [], ap, cond, false, find, length, nat_eq, not, refl, slice_get, subst, sym, true, true≢false, ℕ, ◌&&◌, ◌++◌, ◌+◌, ◌<◌, ◌^◌, ◌||◌, ◌∙◌, ◌∷◌, ◌≡◌}
+use Rattle.std.proofs.Common.{Bool, List, None, Option, Some, [], ap, cond, false, find, length, nat_eq, not, refl, slice_get, subst, sym, true, true≢false, ℕ, ◌&&◌, ◌++◌, ◌+◌, ◌<◌, ◌^◌, ◌||◌, ◌∙◌, ◌∷◌, ◌≡◌, arith}
 use Rattle.std.proofs.lemmas.{Bool.{eqb-true, or_parts}, Option.{none-some, same_Some, slice_get_within}}
 use Rattle.std.specs.{Option.{option_and_then, option_map, option_map_or}, Prelude.{is_none, is_some}}
 use Rattle.oc_base.specs.{declared.format.Word.TheVariants.{W32, W64}, declared.format.Word.{Word}}
 use Rattle.oc_linking.specs.{FirstFault.{fault_of, first_broken, first_fault, stage_fault}, Fits.{bytes_of}, declared.terms.Hint.TheVariants.{Call}}
-use Rattle.oc_linking.specs.{declared.terms.Keep.{Keep}, declared.terms.Width.TheVariants.{Eight, Four, One, Two}, declared.terms.Width.{Width}}
+use Rattle.oc_linking.specs.{declared.terms.Keep.{Keep}, declared.terms.Width.TheVariants.{Four}, declared.terms.Width.{Width}}
 use Rattle.oc_macho.specs.Aims.{aim_in, target_in}
 use Rattle.oc_macho.specs.Entries.{begins, can_refer, is_first, item_at, item_with, row_for, taken_entry, taken_reference, target_entry}
 use Rattle.oc_macho.specs.{Fields.{FieldParts, field_parts_by}, Sections.{is_kept}, Tables.{SectionTable, Tables}, declared.entries.Item.{Item}}
@@ -12,7 +12,7 @@ use Rattle.oc_macho.specs.{declared.relocation_info.Reference.{Reference}, decla
 use Rattle.oc_macho_read.proofs.SymbolLemmas.{number}
 use Rattle.oc_macho_read.specs.Given.{AreAimed, IsTakeable}
 use Rattle.oc_neutral.specs.{Mach.Relocs.{MachRow, entry_among, is_entry, length_of, mach_entries}, Normal.{Place}}
-use Rattle.oc_neutral.specs.Rows.{Taken, TakesGotBase, TakesHome, TakesImageBase, TakesPlace, TakesSection, TakesZero, same_taken}
+use Rattle.oc_neutral.specs.Rows.{Taken, TakesPlace, TakesSection, same_taken}
 use Rattle.oc_shelf.proofs.{ReadingLaws.FirstsLemmas.{any_false}, ReadingLaws.StageLemmas.{all_hold, clean_at, clean_both, first_fault-range}}
 use Rattle.oc_shelf.specs.Reading.Spans.{meets}
 use Rattle.oc_macho.specs.RelocationFaults as rules
@@ -52,15 +52,10 @@ row_is P w e m all is = by (entry_among (mach_entries w) e.r_type e.r_pcrel e.r_
 
 -- a field has 2 to its r_length bytes
 last_of : (a b c : Bool) → (a && b && c) ≡ true → c ≡ true
-last_of true true c e = e
-last_of true false c e = absurd (true≢false (sym e))
-last_of false b c e = absurd (true≢false (sym e))
+last_of a b c e = grind arith
 
 length_is : (width : Width) → bytes_of width ≡ 2 ^ length_of width
-length_is One = refl
-length_is Two = refl
-length_is Four = refl
-length_is Eight = refl
+length_is width = grind arith
 
 nothing_more : (w : Word) → AllRows (λ m. Unit {0}) (mach_entries w)
 nothing_more W32 = (tt, (tt, (tt, (tt, tt))))
@@ -146,9 +141,7 @@ takeable_there t r e f = by (aim_in t r) refl e f
     placed a g (Some p) h i = record { aim = a; is = g; place = p; placed = h }
 
     by : (o : Option (Option aims.Aim)) → aim_in t r ≡ o → referents.is_nothing (referents.referent_by o) ≡ false → referents.cannot_be_taken (referents.referent_by o) ≡ false → IsTakeable t r
-    by None g e f = absurd (true≢false e)
-    by (Some None) g e f = absurd (true≢false f)
-    by (Some (Some a)) g e f = placed a g a.place refl f
+    by o g e f = grind arith
 
 second_there : (w : Word) (item : Item) → rules.is_no_pair w item ≡ false → is_first w item.first ≡ true → is_some item.second ≡ true
 unfolding rules.is_no_pair
@@ -157,8 +150,7 @@ second_there w item paired first =
     by item.second (ap (λ b. b && not (option_map_or (rules.are_pair w item.first) item.second false)) (sym first) ∙ both.1)
   where
     by : (o : Option RelocationInfo) → (true && not (option_map_or (rules.are_pair w item.first) o false)) ≡ false → is_some o ≡ true
-    by None e = absurd (true≢false e)
-    by (Some y) e = refl
+    by o e = grind arith
 
 good_by : (t : Tables) (i : ℕ) (x : SectionTable) (k : ℕ) (item : Item) → first_broken (rules.item_conditions t i x k item) ≡ None → IsGoodItem t i x k item
 unfolding rules.form_conditions rules.target_conditions rules.refers_to_nothing rules.refers_wrongly
@@ -246,21 +238,13 @@ unfolding item_at
 second_first w relocs k item y is second = by (begins w relocs k) (slice_get relocs k) is
   where
     of : (e : RelocationInfo) (b : Bool) → is_first w e ≡ b → record { first = e; second = cond b (slice_get relocs (k + 1)) None } ≡ item → is_first w item.first ≡ true
-    of e true f g = sym (ap (λ (i : Item). is_first w i.first) g) ∙ f
-    of e false f g = absurd (none-some y (ap (λ (i : Item). i.second) g ∙ second))
+    of e b f g = grind arith
 
     by : (b : Bool) (o : Option RelocationInfo) → cond b (option_map (item_with w relocs k) o) None ≡ Some item → is_first w item.first ≡ true
-    by false o e = absurd (none-some item e)
-    by true None e = absurd (none-some item e)
-    by true (Some x) e = of x (is_first w x) refl (same_Some (item_with w relocs k x) item e)
+    by b o e = grind arith
 
 takes_by : (x : Taken) → same_taken x TakesSection ≡ true → x ≡ TakesSection
-takes_by TakesZero e = absurd (true≢false (sym e))
-takes_by TakesPlace e = absurd (true≢false (sym e))
-takes_by TakesGotBase e = absurd (true≢false (sym e))
-takes_by TakesImageBase e = absurd (true≢false (sym e))
-takes_by TakesHome e = absurd (true≢false (sym e))
-takes_by TakesSection e = refl
+takes_by x e = grind arith
 
 pub first_takes : (w : Word) (e : RelocationInfo) (m : MachRow) → row_for w e ≡ Some m → is_first w e ≡ true → m.row.taken ≡ TakesSection
 first_takes w e m is first = takes_by m.row.taken (sym (ap (λ (o : Option MachRow). option_map_or (λ (m : MachRow). same_taken m.row.taken TakesSection) o false) is) ∙ first)
@@ -272,25 +256,21 @@ pub reference_second : (w : Word) (item : Item) (r : Reference) → taken_refere
 reference_second W32 item r e = by item.second refl e
   where
     by : (o : Option RelocationInfo) → item.second ≡ o → option_map (λ (e : RelocationInfo). e.refers) o ≡ Some r → (y : RelocationInfo) × (item.second ≡ Some y)
-    by None g h = absurd (none-some r h)
-    by (Some y) g h = (y, g)
+    by o g h = grind arith
 reference_second W64 item r e = by item.second refl e
   where
     by : (o : Option RelocationInfo) → item.second ≡ o → option_map (λ (e : RelocationInfo). e.refers) (option_map (λ e. item.first) o) ≡ Some r → (y : RelocationInfo) × (item.second ≡ Some y)
-    by None g h = absurd (none-some r h)
-    by (Some y) g h = (y, g)
+    by o g h = grind arith
 
 pub second_reference : (w : Word) (item : Item) → is_some item.second ≡ true → is_some (taken_reference w item) ≡ true
 second_reference W32 item e = by item.second e
   where
     by : (o : Option RelocationInfo) → is_some o ≡ true → is_some (option_map (λ (e : RelocationInfo). e.refers) o) ≡ true
-    by None e = e
-    by (Some y) e = e
+    by o e = grind arith
 second_reference W64 item e = by item.second e
   where
     by : (o : Option RelocationInfo) → is_some o ≡ true → is_some (option_map (λ (e : RelocationInfo). e.refers) (option_map (λ e. item.first) o)) ≡ true
-    by None e = e
-    by (Some y) e = e
+    by o e = grind arith
 
 -- a difference is counted from its place
 abbrev pub IsPairRow : MachRow → Type 0

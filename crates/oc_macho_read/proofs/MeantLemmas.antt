@@ -1,5 +1,5 @@
 -- What the meaning of a type makes of a field is what its row makes of it.
-use Rattle.std.proofs.Common.{Bool, List, None, Option, Some, ap, arith, cond, false, length, nat_lt, neg_ℤ, pos, refl, replicate, slice_get, subst, sym, true, true≢false, ℕ, ℤ, ◌+◌, ◌-ℤ◌, ◌-◌, ◌<◌, ◌^◌, ◌||◌, ◌∙◌, ◌≡◌, ◌≤◌}
+use Rattle.std.proofs.Common.{Bool, List, None, Option, Some, ap, arith, cond, false, length, nat_lt, neg_ℤ, pos, refl, replicate, slice_get, subst, sym, true≢false, ℕ, ℤ, ◌+◌, ◌-ℤ◌, ◌-◌, ◌<◌, ◌^◌, ◌||◌, ◌∙◌, ◌≡◌, ◌≤◌}
 use Rattle.std.proofs.lemmas.{Bool.{ne_eqb}, Option.{none-some, same_Some, slice_get_within}}
 use Rattle.std.specs.{Option.{option_and_then, option_map, option_map_or, unwrap_or}, Prelude.{IsSome, is_some, ◌+ℤ◌}}
 use Rattle.oc_algebra.proofs.Laws.{reduced_same, residue_less}
@@ -15,7 +15,7 @@ use Rattle.oc_macho.specs.{declared.entries.Item.{Item}, declared.meaning.Meanin
 use Rattle.oc_macho.specs.{declared.relocation_info.Reference.{Reference}, declared.relocation_info.RelocationInfo.{RelocationInfo}}
 use Rattle.oc_macho.specs.declared.section_header.SectionHeader.{SectionHeader}
 use Rattle.oc_macho_read.proofs.AimLemmas.{Carried, IsAim, IsNamed, IsSectional, Own, ToAddress, ToSection, ToSymbol, aim_is, named_is}
-use Rattle.oc_macho_read.proofs.{ItemLemmas.{row_width}, SectionedLemmas.{at_most}, SymbolLemmas.{each_binding, each_outer}, TableLemmas.{raw_long}}
+use Rattle.oc_macho_read.proofs.{ItemLemmas.{row_width}, SymbolLemmas.{each_binding, each_outer}, TableLemmas.{raw_long}}
 use Rattle.oc_macho_read.specs.Built.{AreRead, symbol_position}
 use Rattle.oc_macho_read.specs.Given.{AreAimed, IsAimed, IsTakeable, addend_meant, aim_for, counted_by, given_meant, less_meant, reloc_as, reloc_by, reloc_meant, reloc_of_item, taken_aim, taken_offset, target_for}
 use Rattle.oc_neutral.specs.{Mach.Relocs.{MachRow}, Normal.{Place, place_of}}
@@ -47,10 +47,7 @@ module _ (t : Tables) (keep : Keep) where
           ∙ sym (ap (λ (o : Option Nlist). given.target_by (option_map_or (λ (s : Nlist). s.n_sect - 1) o 0) (symbol_position t keep j)) here)
 
       by : IsAim t r a → (aim_for t keep r).target ≡ target_for t keep r
-      by (ToSymbol j is (Carried m)) = subst (λ (x : Reference). (aim_for t keep x).target ≡ target_for t keep x) (sym is) (symbol j m.nlist m.there)
-      by (ToSymbol j is (Own s here left offset m counted)) = subst (λ (x : Reference). (aim_for t keep x).target ≡ target_for t keep x) (sym is) (symbol j s here)
-      by (ToSection k is m counted) = subst (λ (x : Reference). (aim_for t keep x).target ≡ target_for t keep x) (sym is) refl
-      by (ToAddress v k is held m counted) = subst (λ (x : Reference). (aim_for t keep x).target ≡ target_for t keep x) (sym is) refl
+      by x = grind arith
 
   -- the address that it is counted in
   pub counted_is : (r : Reference) (a : aims.Aim) → aim_in t r ≡ Some (Some a) → (aim_for t keep r).counted ≡ a.counted
@@ -82,8 +79,7 @@ module _ (t : Tables) (keep : Keep) where
           (λ a c e. of (is_type N_ABS s) e)
         where
           of : (b : Bool) → place_of (cond b (value.Absolute s.n_value) (value.Place (s.n_sect - 1) (offset_of t s))) ≡ Some m.place → (s.n_sect - 1, offset_of t s) ≡ m.place
-          of true e = absurd (none-some m.place e)
-          of false e = same_Some (s.n_sect - 1, offset_of t s) m.place e
+          of b e = grind arith
 
       named : (j : ℕ) → IsNamed t j m.aim → ((aim_for t keep (reference.Symbol j)).section ≡ m.place.0) × ((aim_for t keep (reference.Symbol j)).beyond ≡ m.place.1)
       named j (Carried n) =
@@ -115,8 +111,7 @@ unfolding aim_in
 aimed_held t v aimed = by (holder_of t v) aimed.is
   where
     by : (o : Option ℕ) → option_and_then (numbered_aim t) o ≡ Some (Some aimed.aim) → IsSome o
-    by None is = absurd (none-some (Some aimed.aim) is)
-    by (Some k) is = refl
+    by o is = grind arith
 
 pub taken_aimed : (t : Tables) (item : Item) (r : Reference) → AreAimed t item → taken_reference t.word item ≡ Some r → IsAimed t r
 taken_aimed t item r aimed is = let m = aimed.taken r is in record { aim = m.aim; is = m.is }
@@ -172,12 +167,7 @@ module _ (t : Tables) (keep : Keep) (s : ℕ) (c : SectionTable) (here : slice_g
     less_same = by row.row.taken
       where
         by : (l : Taken) → less_meant (rows.less_of l 0) p ≡ rows.less_of l (taken_section x)
-        by TakesZero = refl
-        by TakesPlace = refl
-        by TakesGotBase = refl
-        by TakesImageBase = refl
-        by TakesHome = refl
-        by TakesSection = ap less.Section same.section
+        by l = grind arith
 
     given_same : given_meant c.header.addr at (meant_by row) b p ≡ given_back t s at x
     given_same = by row.row.taken
@@ -281,9 +271,7 @@ pub stored_inside : (h : SectionHeader) (item : Item) (n : ℕ) → faults.is_ou
 stored_inside h item n e same = of (is_zerofill h) (nat_lt h.size (item.first.r_address + 2 ^ item.first.r_length)) refl refl e
   where
     of : (a c : Bool) → is_zerofill h ≡ a → nat_lt h.size (item.first.r_address + 2 ^ item.first.r_length) ≡ c → (a || c) ≡ false → (is_zerofill h ≡ false) × (item.first.r_address + n ≤ h.size)
-    of false false f g x = let inside = at_most h.size (item.first.r_address + 2 ^ item.first.r_length) g in (f, omega (arith, inside, same))
-    of true c f g x = absurd (true≢false x)
-    of false true f g x = absurd (true≢false x)
+    of a c f g x = grind arith
 
 -- the relocation of a field, by what is read of it
 pub item_made_of : (t : Tables) (keep : Keep) (i : ℕ) (h : SectionHeader) (item : Item) (m : Meaning) (w : Word) (n : ℤ) (raw : List ℕ) (a : ours.Aim) (b : Option ours.Aim) → IsTable t i h → is_zerofill h ≡ false → w ≡ t.word

@@ -114,8 +114,7 @@ module _ (t : Tables) where
       ∙ by (test j) (is_taken_upto t x k j) (option_map_or (takes_symbol t.word j) (item_at t.word x.relocs k) false)
     where
       by : (a b c : Bool) → (a || (b || c)) ≡ (a || b || c)
-      by true b c = refl
-      by false b c = refl
+      by a b c = grind arith
 
 -- ... sections
 
@@ -124,16 +123,14 @@ any_filtered {X} p q xs i x here =
     ap (λ (ys : List X). list_any q (filter p ys)) (take_here xs i x here) ∙ by (take i xs)
   where
     last : (b : Bool) → list_any q (cond b (x ∷ []) []) ≡ b && q x
-    last true = or-false (q x)
-    last false = refl
+    last b = grind arith
 
     more : (y : X) (ys : List X) (b : Bool) → list_any q (filter p (ys ++ x ∷ [])) ≡ (list_any q (filter p ys) || p x && q x)
         → list_any q (cond b (y ∷ filter p (ys ++ x ∷ [])) (filter p (ys ++ x ∷ []))) ≡ (list_any q (cond b (y ∷ filter p ys) (filter p ys)) || p x && q x)
     more y ys true e = ap (λ b. q y || b) e ∙ assoc (q y) (list_any q (filter p ys)) (p x && q x)
       where
         assoc : (a b c : Bool) → (a || (b || c)) ≡ (a || b || c)
-        assoc true b c = refl
-        assoc false b c = refl
+        assoc a b c = grind arith
     more y ys false e = e
 
     by : (ys : List X) → list_any q (filter p (ys ++ x ∷ [])) ≡ (list_any q (filter p ys) || p x && q x)

@@ -1,6 +1,5 @@
 -- The fields of a section, in the order of their places.
-use Rattle.std.proofs.Common.{Bool, List, None, Option, Some, ap, cond, false, get_or, length, refl, slice_get, subst, sym, true, ℕ, ◌<◌, ◌∙◌, ◌≡◌}
-use Rattle.std.proofs.lemmas.Option.{none-some, same_Some}
+use Rattle.std.proofs.Common.{Bool, List, None, Option, Some, ap, cond, false, get_or, length, refl, slice_get, subst, sym, true, ℕ, ◌<◌, ◌∙◌, ◌≡◌, arith}
 use Rattle.std.specs.{List.Sorted.{IsPermutation}, Option.{option_map}}
 use Rattle.oc_base.specs.declared.format.Word.{Word}
 use Rattle.oc_macho.specs.{Entries.{begins, item_at, item_with}, Tables.{SectionTable, Tables}, declared.entries.Item.{Item}}
@@ -28,8 +27,7 @@ unfolding item_at
 item_begins w relocs k item e = by (begins w relocs k) e
   where
     by : (b : Bool) → cond b (option_map (item_with w relocs k) (slice_get relocs k)) None ≡ Some item → b ≡ true
-    by true e = refl
-    by false e = absurd (none-some item e)
+    by b e = grind arith
 
 -- what is placed for an entry
 record IsPlaced (t : Tables) (c : SectionTable) (k : ℕ) (x : PlacedEntry) : Type 0 where
@@ -41,8 +39,7 @@ placed_is : (t : Tables) (c : SectionTable) (k : ℕ) (x : PlacedEntry) → plac
 placed_is t c k x e = by (item_at t.word c.relocs k) refl e
   where
     by : (o : Option Item) → item_at t.word c.relocs k ≡ o → option_map (λ (i : Item). record { place = i.first.r_address; index = k }) o ≡ Some x → IsPlaced t c k x
-    by None h g = absurd (none-some x g)
-    by (Some i) h g = let made : PlacedEntry = record { place = i.first.r_address; index = k } in record { item = i; is = h; same = same_Some made x g }
+    by o h g = grind arith
 
 placed_item : (t : Tables) (c : SectionTable) (k : ℕ) (x : PlacedEntry) → k < length c.relocs → placed t c k ≡ Some x → IsPlacedItem t c x
 placed_item t c k x low e = let m = placed_is t c k x e in subst (IsPlacedItem t c) m.same (record { low = low; item = m.item; is = m.is; place = refl })

@@ -3,8 +3,8 @@ use Rattle.std.proofs.Common.{List, None, Ok, Option, Some, [], ap, arith, cond,
 use Rattle.std.proofs.lemmas.{Bool.Decides.{nat_tests}, List.FromFn.{length-enumerate_from}, List.Sums.{sum_by-append, sum_by-cons}}
 use Rattle.std.proofs.lemmas.{List.{length-map, map-append}, Option.{none-some, same_Some, slice_get-map, slice_get_within}}
 use Rattle.std.specs.{List.{enumerate_from}, Option.{option_map, option_map_or}}
-use Rattle.oc_linking.specs.{FirstFault.{fault_of, first_broken, stage_fault}, Numbers.{modulus}}
-use Rattle.oc_linking.specs.{declared.terms.Kind.TheVariants.{Code, Data, Debug, Exception, Fini, Init, Note, ReadOnly, Zero}, declared.terms.Kind.{Kind}}
+use Rattle.oc_linking.specs.{FirstFault.{fault_of, first_broken, stage_fault}, Numbers.{modulus}, declared.terms.Kind.TheVariants.{Zero}}
+use Rattle.oc_linking.specs.declared.terms.Kind.{Kind}
 use Rattle.oc_macho_judge.proofs.SectionLemmas.{there}
 use Rattle.oc_macho.specs.{Framed.{table_at}, MachHeader.{mach_format}, Sections.{kind_of, section_of, sections_in}, Tables.{SectionTable, Tables}}
 use Rattle.oc_macho.specs.declared.section_header.SectionHeader.{SectionHeader}
@@ -90,15 +90,7 @@ sound_section t clean i x here =
 -- ... sums
 
 zero_is : (k : Kind) → is_zero k ≡ same_kind k Zero
-zero_is Code = refl
-zero_is ReadOnly = refl
-zero_is Data = refl
-zero_is Zero = refl
-zero_is Init = refl
-zero_is Fini = refl
-zero_is Debug = refl
-zero_is Exception = refl
-zero_is Note = refl
+zero_is k = grind arith
 
 -- section i as it is stored
 abbrev pub stored_at : Tables → ℕ → Section

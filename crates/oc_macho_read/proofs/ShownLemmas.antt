@@ -1,8 +1,7 @@
 -- A file without faults shows what is built of it.
-use Rattle.std.proofs.Common.{Bool, List, None, Option, Some, [], ap, bytes_eq, codes, cond, false, map, nat_eq, refl, replicate, slice_get, subst, sym, true, true≢false, ℕ, ◌&&◌, ◌||◌, ◌∙◌, ◌∷◌, ◌≡◌}
-use Rattle.std.proofs.lemmas.Option.{none-some}
+use Rattle.std.proofs.Common.{Bool, List, None, Option, Some, [], ap, bytes_eq, codes, cond, map, nat_eq, refl, replicate, slice_get, subst, sym, true, true≢false, ℕ, ◌&&◌, ◌||◌, ◌∙◌, ◌∷◌, ◌≡◌, arith}
 use Rattle.std.specs.List.{enumerate_from}
-use Rattle.oc_base.specs.{Formats.{word_for}, declared.fault.Fault.{Fault}, declared.format.Word.TheVariants.{W32, W64}, declared.format.Word.{Word}}
+use Rattle.oc_base.specs.{Formats.{word_for}, declared.fault.Fault.{Fault}, declared.format.Word.{Word}}
 use Rattle.oc_linking.specs.{FirstFault.{first_fault, stage_fault}, Numbers.{or_else}, declared.terms.Binding.TheVariants.{Weak}, declared.terms.Keep.{Keep}}
 use Rattle.oc_linking.specs.declared.terms.Kind.TheVariants.{Code, Data, Debug, Exception, Fini, Init, ReadOnly, Zero}
 use Rattle.oc_macho_judge.proofs.SectionLemmas.{there}
@@ -27,8 +26,7 @@ use Rattle.oc_macho.specs.RelocationFaults as faults
 -- ... stages
 
 none_of : (a b : Option Fault) → or_else a b ≡ None → (a ≡ None) × (b ≡ None)
-none_of None b e = (refl, e)
-none_of (Some f) b e = absurd (none-some f (sym e))
+none_of a b e = grind arith
 
 pub stages_clean : (t : Tables) (keep : Keep) → first_fault (own.rest_stages t keep) ≡ None → IsClean t keep
 stages_clean t keep none =
@@ -49,16 +47,7 @@ keys_are w b = keys_none (enumerate_from 1 (tables_of w b).sections)
 
 -- a section of zeros holds zeros
 zero_by : (a b c d e f g h i : Bool) → is_zero (first_rule ((a, Debug) ∷ (b, Exception) ∷ (c, Exception) ∷ (d, Exception) ∷ (e, Init) ∷ (f, Fini) ∷ (g, Zero) ∷ (h, Code) ∷ (i, ReadOnly) ∷ []) Data) ≡ true → g ≡ true
-zero_by a b c d e f true h i x = refl
-zero_by true b c d e f false h i x = absurd (true≢false (sym x))
-zero_by false true c d e f false h i x = absurd (true≢false (sym x))
-zero_by false false true d e f false h i x = absurd (true≢false (sym x))
-zero_by false false false true e f false h i x = absurd (true≢false (sym x))
-zero_by false false false false true f false h i x = absurd (true≢false (sym x))
-zero_by false false false false false true false h i x = absurd (true≢false (sym x))
-zero_by false false false false false false false true i x = absurd (true≢false (sym x))
-zero_by false false false false false false false false true x = absurd (true≢false (sym x))
-zero_by false false false false false false false false false x = absurd (true≢false (sym x))
+zero_by a b c d e f g h i x = grind arith
 
 pub zero_kind : (h : SectionHeader) → is_zero (kind_of h) ≡ true → is_zerofill h ≡ true
 unfolding kind_of mach_kind
@@ -75,8 +64,7 @@ zeros_in t k s there zero_kinded =
     subst (λ (y : parts.Section). y.contents ≡ replicate y.size 0) m.2 (ap (λ b. cond b (replicate m.0.header.size 0) m.0.raw) zerofill)
 
 word_is : (w : Word) → w ≡ word_for (mach_format w)
-word_is W32 = refl
-word_is W64 = refl
+word_is w = grind arith
 
 -- no symbol names another
 names_none : (t : Tables) (keep : Keep) (k number : ℕ) (s : parts.Symbol) → slice_get (symbols_in t keep) k ≡ Some s → s.binding ≡ Weak (fallback.Name number) → ⊥

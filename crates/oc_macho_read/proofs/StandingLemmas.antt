@@ -5,12 +5,12 @@ use Rattle.std.specs.{List.{list_any}, Option.{option_and_then, option_map, opti
 use Rattle.oc_base.specs.declared.format.Word.{Word}
 use Rattle.oc_linking.proofs.{FirstFaultLaws.{first_upto_none}, Upto.{first_upto_from}}
 use Rattle.oc_linking.specs.{FirstFault.{first_fault}, Fits.{bytes_of}, Keeping.{keeps}, Rules.{Field}, declared.terms.Keep.{Keep}}
-use Rattle.oc_macho.specs.Entries.{is_pinned, is_taken_in, item_at, refers_to, taken_entry, taken_reference, takes_symbol}
+use Rattle.oc_macho.specs.Entries.{is_pinned, is_taken_in, item_at, taken_entry, taken_reference, takes_symbol}
 use Rattle.oc_macho.specs.{Fields.{FieldParts, field_of, fields_in, field_parts_by, item_for, number_of}, Rules.{mach_dialect}}
 use Rattle.oc_macho.specs.{Sections.{is_kept, section_of, sections_in}, Tables.{SectionTable, Tables, tables_of}, declared.entries.Item.{Item}}
 use Rattle.oc_macho.specs.declared.relocation_info.RelocationInfo.{RelocationInfo}
 use Rattle.oc_macho_read.proofs.{FieldLemmas.{item_field}, ItemLemmas.{IsGoodItem, found_as, found_is, good_item, items_apart, row_width}}
-use Rattle.oc_macho_read.proofs.{PinLemmas.{refers_symbol}, SectionedLemmas.{at_most, section_there}}
+use Rattle.oc_macho_read.proofs.SectionedLemmas.{at_most, section_there}
 use Rattle.oc_macho_read.specs.Given.{given_at, reloc_as, reloc_by}
 use Rattle.oc_shows.specs.Built.{AreApart, AreOfFile, IsField, IsFree, IsGiven}
 use Rattle.oc_neutral.specs.{Dialects.{kept_fields}, Faces.{shown_symbols}, Objects.{Object}, declared.reloc.Reloc.{Reloc}}
@@ -30,12 +30,10 @@ any_kept {X} p q (y ∷ xs) zero x here kept is =
 any_kept p q (y ∷ xs) (suc i) x here kept is = by (p y) (any_kept p q xs i x here kept is)
   where
     right : (b : Bool) → (b || true) ≡ true
-    right true = refl
-    right false = refl
+    right b = grind arith
 
     by : (b : Bool) → list_any q (filter p xs) ≡ true → list_any q (cond b (y ∷ filter p xs) (filter p xs)) ≡ true
-    by true e = ap (λ (b : Bool). q y || b) e ∙ right (q y)
-    by false e = e
+    by b e = grind arith
 
 -- the symbol that a field of a kept section takes is pinned
 pub pinned_by : (t : Tables) (keep : Keep) (i : ℕ) (x : SectionTable) (k : ℕ) (item : Item) → slice_get t.sections i ≡ Some x → is_kept keep x ≡ true → k < length x.relocs → item_at t.word x.relocs k ≡ Some item
@@ -47,8 +45,7 @@ pinned_by t keep i x k item here kept low is j taken =
     (ap (λ (o : Option Item). option_map_or (takes_symbol t.word j) o false) is ∙ by (taken_entry t.word item) refl taken))
   where
     by : (o : Option RelocationInfo) → taken_entry t.word item ≡ o → option_map (λ (e : RelocationInfo). e.refers) o ≡ Some (reference.Symbol j) → takes_symbol t.word j item ≡ true
-    by None g h = absurd (none-some (reference.Symbol j) h)
-    by (Some y) g h = ap (λ (o : Option RelocationInfo). option_map_or (refers_to j) o false) g ∙ refers_symbol j j y (same_Some y.refers (reference.Symbol j) h) ∙ eq-eqb j j refl
+    by o g h = grind arith
 
 -- ... what stands at an offset
 
@@ -114,8 +111,7 @@ module _ (w : Word) (b : List ℕ) (keep : Keep) (n : Object) (shown : shown_sym
   either s at = by (slice_get t.sections s) refl
     where
       none : (k : Bool) → {X : Type 0} → cond {A = Option X} k None None ≡ None
-      none true = refl
-      none false = refl
+      none k = grind arith
 
       field_by : (c : SectionTable) → slice_get t.sections s ≡ Some c → kept_fields (mach_dialect w) b keep s at ≡ cond (is_kept keep c) (option_map (field_of t s at c) (option_and_then (field_parts_by t) (item_for t c at))) None
       field_by c g =
@@ -197,15 +193,13 @@ module _ (w : Word) (b : List ℕ) (keep : Keep) (n : Object) (shown : shown_sym
   given_standing s at r e = by (either s at)
     where
       by : Either s at → IsStanding s at
-      by (inl free) = absurd (none-some r (sym free.none ∙ e))
-      by (inr m) = m
+      by x = grind arith
 
   pub field_standing : (s at : ℕ) (x : Field) → kept_fields (mach_dialect w) b keep s at ≡ Some x → IsStanding s at
   field_standing s at x e = by (either s at)
     where
       by : Either s at → IsStanding s at
-      by (inl free) = absurd (none-some x (sym free.field ∙ e))
-      by (inr m) = m
+      by x = grind arith
 
   -- the relocation, by its row
   pub given_same : (s at : ℕ) (r : Reloc) (e : given_at t keep s at ≡ Some r) (m : IsStanding s at) → reloc_as t keep s at (number_of m.c at (found_as t s m.c m.begun.k m.item m.good)) m.item (found_as t s m.c m.begun.k m.item m.good) ≡ r
@@ -244,9 +238,7 @@ module _ (w : Word) (b : List ℕ) (keep : Keep) (n : Object) (shown : shown_sym
           below a b l = grind (arith, nat_tests)
 
           left : (a b : Bool) → b ≡ true → (a && b) ≡ false → a ≡ false
-          left false b e f = refl
-          left true true e f = absurd (true≢false f)
-          left true false e f = absurd (true≢false (sym e))
+          left a b e f = grind arith
 
       positive : (n : ℕ) → 1 ≤ 2 ^ n
       positive n = one_le n
@@ -259,10 +251,7 @@ module _ (w : Word) (b : List ℕ) (keep : Keep) (n : Object) (shown : shown_sym
       flip x y p q e = swap (nat_lt x (y + q)) (nat_lt y (x + p)) e
         where
           swap : (a b : Bool) → (a && b) ≡ false → (b && a) ≡ false
-          swap true true e = e
-          swap true false e = refl
-          swap false true e = refl
-          swap false false e = refl
+          swap a b e = grind arith
 
       by : item_at t.word a.c.relocs d.begun.k ≡ Some d.item → IsGoodItem t s a.c d.begun.k d.item → (a.begun.k ≡ d.begun.k) ⊎ (a.begun.k ≢ d.begun.k) → (a.begun.k < d.begun.k) ⊎ (d.begun.k ≤ a.begun.k)
           → i + 2 ^ a.item.first.r_length ≤ j

@@ -51,9 +51,7 @@ module _ (t : Tables) (keep : Keep) where
   given_first p s at = by (nat_lt s p) (nat_eq s p)
     where
       by : (a b : Bool) → cond a (given_at t keep s at) None ≡ cond (a || b && false) (given_at t keep s at) None
-      by true b = refl
-      by false true = refl
-      by false false = refl
+      by a b = grind arith
 
 -- ... fields of a section
 
@@ -75,9 +73,7 @@ module _ (t : Tables) (keep : Keep) (clean : first_fault (faults.relocation_stag
           below a b l = grind (arith, nat_tests)
 
           both : (a b : Bool) → a ≡ true → b ≡ true → (a && b) ≡ true
-          both true true e f = refl
-          both true false e f = absurd (true≢false (sym f))
-          both false b e f = absurd (true≢false (sym e))
+          both a b e f = grind arith
 
   -- the field that begins with an entry is the first at its offset
   pub item_first : (k : ℕ) (item : Item) → k < length c.relocs → item_at t.word c.relocs k ≡ Some item → item_for t c item.first.r_address ≡ Some item

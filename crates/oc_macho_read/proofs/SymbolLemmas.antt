@@ -1,6 +1,6 @@
 -- The symbols of a file without faults.
 use Rattle.std.proofs.Common.{Bool, List, None, Option, Some, [], ap, arith, bytes_eq, cond, false, length, nat_eq, nat_lt, not, refl, slice_get, sym, true, true≢false, ℕ, ◌%◌, ◌&&◌, ◌++◌, ◌+◌, ◌-◌, ◌/◌, ◌<◌, ◌^◌, ◌||◌, ◌∙◌, ◌≡◌, ◌≤◌}
-use Rattle.std.proofs.lemmas.Option.{none-some, same_Some, slice_get_within}
+use Rattle.std.proofs.lemmas.Option.{none-some, slice_get_within}
 use Rattle.std.specs.{Option.{option_and_then, option_map, option_map_or}, Prelude.{is_none, is_some}}
 use Rattle.oc_linking.specs.{FirstFault.{fault_of, first_broken, stage_fault}, declared.terms.Binding.TheVariants.{Common, Global, Local, Undefined, Weak}}
 use Rattle.oc_linking.specs.{declared.terms.Binding.{Binding}, declared.terms.Keep.{Keep}, declared.terms.Mark.TheVariants.{NoType}}
@@ -12,7 +12,7 @@ use Rattle.oc_macho.specs.{declared.nlist.Nlist.{Nlist}, declared.section_header
 use Rattle.oc_shelf.proofs.ReadingLaws.NumberedLemmas.{one_position, stands_numbered}
 use Rattle.oc_shelf.proofs.ReadingLaws.CollectedLemmas.{IsFrom, collected-at, collected-from, collected-ordered, collected-same, numbered}
 use Rattle.oc_shelf.proofs.ReadingLaws.StageLemmas.{all_hold, clean_at, clean_both}
-use Rattle.oc_macho_read.proofs.SectionedLemmas.{at_most, sound_section}
+use Rattle.oc_macho_read.proofs.SectionedLemmas.{sound_section}
 use Rattle.oc_macho_read.specs.Built.{IsSound, symbol_as, symbol_at}
 use Rattle.oc_shows.specs.{Computed.{computed_symbol, placed_binding, position_of}, Shows.{AreNumbered}}
 use Rattle.oc_neutral.specs.KindRules.{has}
@@ -53,8 +53,7 @@ stands_at t keep k s is = by (slice_get t.symbols k) refl is
     by (Some y) g h = of (is_carried t y) refl h
       where
         of : (b : Bool) → is_carried t y ≡ b → cond b (Some (as_part t (is_pinned t keep k) k y)) None ≡ Some s → IsAt t keep k s
-        of true e i = record { nlist = y; there = g; carried = e; is = same_Some (as_part t (is_pinned t keep k) k y) s i }
-        of false e i = absurd (none-some s i)
+        of b e i = grind arith
 
 pub carried_at : (t : Tables) (keep : Keep) (k : ℕ) (y : Nlist) → slice_get t.symbols k ≡ Some y → is_carried t y ≡ true → symbol_at t keep k ≡ Some (as_part t (is_pinned t keep k) k y)
 unfolding symbol_at symbol_of
@@ -166,8 +165,7 @@ pub not_stab : (t : Tables) (s : Nlist) → is_carried t s ≡ true → is_stab 
 not_stab t s e = by (is_stab s) (is_own t s) (is_external s || not (bytes_eq (name_of t s) [])) e
   where
     by : (a b c : Bool) → (not a && not b && c) ≡ true → a ≡ false
-    by false b c e = refl
-    by true b c e = absurd (true≢false (sym e))
+    by a b c e = grind arith
 
 module _ (t : Tables) (clean : stage_fault (rules.symbol_stage t) ≡ None) where
   pub sound_symbol : (j : ℕ) (s : Nlist) → slice_get t.symbols j ≡ Some s → is_stab s ≡ false → IsSoundSymbol t j s
@@ -188,9 +186,7 @@ not_outside : (v a z : ℕ) → (nat_lt v a || nat_lt (a + z) v) ≡ false → (
 not_outside v a z e = by (nat_lt v a) (nat_lt (a + z) v) refl refl e
   where
     by : (b c : Bool) → nat_lt v a ≡ b → nat_lt (a + z) v ≡ c → (b || c) ≡ false → (a ≤ v) × (v ≤ a + z)
-    by false false g h e = (at_most v a g, at_most (a + z) v h)
-    by true c g h e = absurd (true≢false e)
-    by false true g h e = absurd (true≢false e)
+    by b c g h e = grind arith
 
 -- the header of a section, unless its number is 0
 abbrev pub number : Option SectionTable → Bool → Option SectionHeader
@@ -206,8 +202,7 @@ has_home t j s sound sect = by (nat_eq s.n_sect 0) refl (slice_get t.sections (s
     )
       where
         second : (b : Bool) → (true && b) ≡ false → b ≡ false
-        second true e = e
-        second false e = e
+        second b e = grind arith
 
     by : (b : Bool) → nat_eq s.n_sect 0 ≡ b → (o : Option SectionTable) → slice_get t.sections (s.n_sect - 1) ≡ o → HasHome t s
     by true e o g = absurd (true≢false (is_home None (ap (number (slice_get t.sections (s.n_sect - 1))) e)).0)
@@ -237,10 +232,7 @@ known_section s odd undefined absolute =
     by (is_type N_UNDF s) (is_type N_ABS s) (is_type N_SECT s) (is_type N_UNDF s && not (is_external s)) (is_type N_ABS s && is_external s && has s.n_desc N_WEAK_DEF) undefined absolute odd
   where
     by : (a b c d e : Bool) → a ≡ false → b ≡ false → (not (a || b || c) || d || e) ≡ false → c ≡ true
-    by a b true d e f g h = refl
-    by false false false d e f g h = absurd (true≢false h)
-    by true b false d e f g h = absurd (true≢false f)
-    by false true false d e f g h = absurd (true≢false g)
+    by a b c d e f g h = grind arith
 
 -- a Local is defined
 pub local_defined : (s : Nlist) → rules.is_odd s ≡ false → is_external s ≡ false → is_type N_UNDF s ≡ false
@@ -248,7 +240,4 @@ local_defined s odd local =
     by (is_type N_UNDF s) (is_external s) (not (is_type N_UNDF s || is_type N_ABS s || is_type N_SECT s)) (is_type N_ABS s && is_external s && has s.n_desc N_WEAK_DEF) local odd
   where
     by : (a b c d : Bool) → b ≡ false → (c || (a && not b) || d) ≡ false → a ≡ false
-    by false b c d e f = refl
-    by true false true d e f = absurd (true≢false f)
-    by true false false d e f = absurd (true≢false f)
-    by true true c d e f = absurd (true≢false e)
+    by a b c d e f = grind arith

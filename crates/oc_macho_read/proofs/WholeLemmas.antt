@@ -2,7 +2,7 @@
 use Rattle.std.proofs.Common.{Bool, List, None, Option, Some, [], ap, arith, bytes_eq, cond, drop, false, length, map, not, refl, slice_get, subst, sym, true, true≢false, ℕ, ◌%◌, ◌&&◌, ◌+◌, ◌-◌, ◌/◌, ◌<◌, ◌^◌, ◌||◌, ◌∙◌, ◌∷◌, ◌≡◌, ◌≢◌}
 use Rattle.std.proofs.lemmas.Option.{none-some, slice_get-get_or, slice_get-map, slice_get_within}
 use Rattle.std.specs.{List.{AllByRecursion, enumerate_from}, Option.{option_map, option_map_or, unwrap_or}}
-use Rattle.oc_base.specs.{Formats.{word_for}, declared.format.Word.TheVariants.{W32, W64}, declared.format.Word.{Word}}
+use Rattle.oc_base.specs.{Formats.{word_for}, declared.format.Word.{Word}}
 use Rattle.oc_linking.specs.{Numbers.{modulus}, declared.terms.Keep.{Keep}}
 use Rattle.oc_chains.specs.declared.field.Field.{Field}
 use Rattle.oc_macho.specs.{Aims.{aim_in}, Entries.{is_pinned, target_entry}, Fields.{taken_section}, MachHeader.{mach_format}, Rules.{mach_dialect, symbols_in}}
@@ -54,8 +54,7 @@ named_full t j s sound carried none =
     by a false e f g = absurd (last a (not (bytes_eq (name_of t s) [])) (ap not f) g)
       where
         last : (a b : Bool) → b ≡ false → (a && b) ≡ true → ⊥
-        last true b e f = true≢false (sym f ∙ e)
-        last false b e f = true≢false (sym f)
+        last a b e f = grind arith
 
 align_small : (n : ℕ) → IsAlign (2 ^ (n / 2 ^ 8 % 16))
 align_small n = (n / 2 ^ 8 % 16, omega arith, refl)
@@ -72,8 +71,7 @@ module _ (w : Word) (file : List ℕ) (bytes : AreBytes file) (keep : Keep) (cle
   word_is = by w
     where
       by : (w : Word) → modulus (word_for (mach_format w)) ≡ modulus w
-      by W32 = refl
-      by W64 = refl
+      by w = grind arith
 
   -- an offset of a symbol in its section is one of the object's
   place_whole : (j : ℕ) (s : Nlist) → IsSoundSymbol t j s → is_type N_SECT s ≡ true → HasOffset object.sections (s.n_sect - 1) (offset_of t s)
@@ -105,8 +103,7 @@ module _ (w : Word) (file : List ℕ) (bytes : AreBytes file) (keep : Keep) (cle
   room = subst (λ (m : ℕ). 0 < m) (sym word_is) (by w)
     where
       by : (w : Word) → 0 < modulus w
-      by W32 = omega arith
-      by W64 = omega arith
+      by w = grind arith
 
   symbol_whole : length t.symbols < 2 ^ 32 → (k : ℕ) (x : parts.Symbol) → slice_get (symbols_in t keep) k ≡ Some x → IsSymbol object (computed_symbol (symbols_in t keep) x)
   symbol_whole few k x at =

@@ -1,5 +1,5 @@
 -- What is made can be written in every format but ELF for many sections.
-use Rattle.std.proofs.Common.{◌≡◌, ◌≢◌, ℕ, zero, suc, ◌+◌, ◌*◌, ◌%◌, ◌≤◌, Bool, true, false, cond, ◌||◌, [], ◌∷◌, ◌++◌, length, map, min, Option, Some, None, refl, ◌∙◌, ap, arith}
+use Rattle.std.proofs.Common.{◌≡◌, ◌≢◌, ℕ, zero, suc, ◌+◌, ◌*◌, ◌%◌, ◌≤◌, Bool, false, cond, ◌||◌, [], ◌∷◌, ◌++◌, length, map, min, Option, Some, None, refl, ◌∙◌, ap, arith}
 use Rattle.std.specs.{Fmt.{decimal}, List.{AllByRecursion, range_with_len}, Option.{option_map_or}, Prelude.{slice_get, codes, sum_by, count_by}}
 use Rattle.std.proofs.lemmas.{Bool.{true≢false, le-ltb}, List.Sums.{count_by-le-length, sum_by-append, sum_by-cons}}
 use Rattle.oc_base.specs.{declared.format.Word.{Word}, declared.format.Word.TheVariants.{W32, W64}, declared.format.Format.{Format}}
@@ -27,8 +27,7 @@ met : (b : Bool) (f : Fault) → b ≡ false → cond b (Some f) None ≡ None
 met b f e = ap (λ c. cond c (Some f) None) e
 
 one_filter : (b : Bool) → length {A = ℕ} (cond b (0 ∷ []) []) ≤ 1
-one_filter true = omega arith
-one_filter false = omega arith
+one_filter b = grind arith
 
 none_range : {X : Type 0} (g : X → ℕ) (f : ℕ → X) (a n : ℕ) → ((i : ℕ) → g (f i) ≡ 0) → sum_by g (map f (range_with_len a n)) ≡ 0
 none_range g f a zero each = refl
@@ -52,38 +51,11 @@ module _ (count : ℕ) (few : count ≤ 100000) where
   -- ... sections
 
   sections_few : (to : Format) → container_of to ≢ IsElf → first_broken (section_count to (n (word_for to))) ≡ None
-  sections_few Elf32 a = absurd (a refl)
-  sections_few Elf64 a = absurd (a refl)
-  sections_few BigElf32 a = absurd (a refl)
-  sections_few BigElf64 a = absurd (a refl)
-  sections_few Coff32 a = refl
-  sections_few Coff64 a = refl
-  sections_few Mac32 a = refl
-  sections_few Mac64 a = refl
-  sections_few Omf a = refl
-  sections_few BigCoff32 a = refl
-  sections_few BigCoff64 a = refl
+  sections_few to a = grind arith
 
   section_met : (to : Format) → container_of to ≢ IsElf → (i : ℕ) → first_broken (conditions_at to (n (word_for to)) i) ≡ None
   unfolding section_conditions output_names wanted_names
-  section_met Elf32 a i = absurd (a refl)
-  section_met Elf64 a i = absurd (a refl)
-  section_met BigElf32 a i = absurd (a refl)
-  section_met BigElf64 a i = absurd (a refl)
-  section_met Coff32 a zero = refl
-  section_met Coff32 a (suc i) = refl
-  section_met Coff64 a zero = refl
-  section_met Coff64 a (suc i) = refl
-  section_met Mac32 a zero = refl
-  section_met Mac32 a (suc i) = refl
-  section_met Mac64 a zero = refl
-  section_met Mac64 a (suc i) = refl
-  section_met Omf a zero = refl
-  section_met Omf a (suc i) = refl
-  section_met BigCoff32 a zero = refl
-  section_met BigCoff32 a (suc i) = refl
-  section_met BigCoff64 a zero = refl
-  section_met BigCoff64 a (suc i) = refl
+  section_met to a i = grind arith
 
   -- ... symbols
 

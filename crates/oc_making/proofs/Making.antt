@@ -1,8 +1,7 @@
 -- What is made is refused by no conversion.
-use Rattle.std.proofs.Common.{◌≡◌, ℕ, suc, zero, ◌≤◌, true, false, cond, List, [], ◌∷◌, length, Some, None, Ok, refl, sym, ◌∙◌, ap, subst, arith}
-use Rattle.std.proofs.lemmas.{Bool.{true≢false}, Option.{none-some, same_Some}, List.Sums.{sum_by-cons}}
-use Rattle.oc_base.specs.{declared.code.Code.TheVariants.{WordSize}, declared.format.Word.{Word}, declared.format.Word.TheVariants.{W32, W64}}
-use Rattle.oc_base.specs.declared.format.Format.{Format}
+use Rattle.std.proofs.Common.{◌≡◌, ℕ, ◌≤◌, true, false, cond, List, [], ◌∷◌, length, Some, None, Ok, refl, sym, ◌∙◌, ap, subst, arith}
+use Rattle.std.proofs.lemmas.{Bool.{true≢false}, List.Sums.{sum_by-cons}}
+use Rattle.oc_base.specs.{declared.code.Code.TheVariants.{WordSize}, declared.format.Word.{Word}, declared.format.Format.{Format}}
 use Rattle.oc_base.specs.declared.format.Format.TheVariants.{Elf32, Elf64, Coff32, Coff64, Mac32, Mac64, Omf, BigElf32, BigElf64, BigCoff32, BigCoff64}
 use Rattle.oc_base.specs.Formats.{word_for}
 use Rattle.oc_linking.specs.{declared.terms.Keep.{Keep}, Keeping.{keeps}, Numbers.{or_else}}
@@ -42,8 +41,7 @@ module _ (to : Format) (count : ℕ) (many : is_many to ≡ false) (few : count 
 
   kept : (k : ℕ) (s : Section) → slice_get n.sections k ≡ Some s → keeps keep s.kind ≡ true
   unfolding made_object
-  kept zero s here = ap (λ (x : Section). keeps keep x.kind) (sym (same_Some (text_section count) s here)) ∙ code
-  kept (suc k) s here = absurd (none-some s here)
+  kept k s here = grind arith
 
   kept_seen : (k : ℕ) (s : Section) → slice_get (seen n).sections k ≡ Some s → keeps keep s.kind ≡ true
   kept_seen k s here = kept k s (sym (ap (λ (m : Object). slice_get m.sections k) (seen_made count (word_for to) few)) ∙ here)
@@ -84,8 +82,7 @@ made_is_accepted BigCoff32 count many few = all_accepted BigCoff32 count refl fe
 made_is_accepted BigCoff64 count many few = all_accepted BigCoff64 count refl few Class64 refl refl refl refl refl
 
 class_is : (v : Word) → format_of (class_for v) ≡ elf_format v
-class_is W32 = refl
-class_is W64 = refl
+class_is v = grind arith
 
 module _ (w : Word) (count : ℕ) (few : count ≤ 100000) where
   abbrev made : Object

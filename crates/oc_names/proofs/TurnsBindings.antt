@@ -1,5 +1,5 @@
 -- What edits make of the bindings of symbols, one after another, and what settling fallbacks leaves of them.
-use Rattle.std.proofs.Common.{◌≡◌, ◌≢◌, ◌⊎◌, ℕ, Bool, true, false, cond, bytes_eq, List, [], ◌∷◌, Option, Some, None, inl, inr, refl, sym, ◌∙◌, ap}
+use Rattle.std.proofs.Common.{◌≡◌, ◌≢◌, ◌⊎◌, ℕ, Bool, true, false, cond, bytes_eq, List, [], ◌∷◌, Option, Some, None, refl, sym, ◌∙◌, ap, arith}
 use Rattle.std.specs.{Prelude.{slice_get}, List.{AllByRecursion}, Option.{option_map_or}}
 use Rattle.std.proofs.lemmas.{Bool.{true≢false}, Slice.Eq.{bytes_eq-Decides}}
 use Rattle.oc_linking.specs.declared.terms.Value.TheVariants as value
@@ -26,23 +26,7 @@ after_bound (edit ∷ edits) s = after_bound edits (rebound edit s)
 
 -- an edit changes a binding into one that is told of it: a Local stays one, and no fallback Name comes up
 pub local_by : (edit : Edit) (of : List ℕ) (b : Binding) → is_local b ≡ true → rebound_by edit of b ≡ b
-local_by (Weaken name) of (Local v) local = elim (bytes_eq of name) as (λ hit. cond hit (Local v) (Local v) ≡ Local v) [ true ↦ refl | false ↦ refl ]
-local_by (MakeLocal name) of (Local v) local = elim (bytes_eq of name) as (λ hit. cond hit (Local v) (Local v) ≡ Local v) [ true ↦ refl | false ↦ refl ]
-local_by (Rename from to) of b local = refl
-local_by (Prefix from to) of b local = refl
-local_by (Suffix from to) of b local = refl
-local_by (Alias from to) of b local = refl
-local_by (AliasPrefix from to) of b local = refl
-local_by (AliasSuffix from to) of b local = refl
-local_by Underscore of b local = refl
-local_by (Weaken name) of (Global v) local = absurd (true≢false (sym local))
-local_by (Weaken name) of Undefined local = absurd (true≢false (sym local))
-local_by (Weaken name) of (Common size align) local = absurd (true≢false (sym local))
-local_by (Weaken name) of (Weak f) local = absurd (true≢false (sym local))
-local_by (MakeLocal name) of (Global v) local = absurd (true≢false (sym local))
-local_by (MakeLocal name) of Undefined local = absurd (true≢false (sym local))
-local_by (MakeLocal name) of (Common size align) local = absurd (true≢false (sym local))
-local_by (MakeLocal name) of (Weak f) local = absurd (true≢false (sym local))
+local_by edit of b local = grind arith
 
 pub bound_local : (edits : List Edit) (of : List ℕ) (b : Binding) → is_local b ≡ true → bound edits of b ≡ b
 bound_local [] of b local = refl
@@ -52,26 +36,10 @@ bound_local (edit ∷ edits) of b local =
 
 -- edits that are not about a name leave the bindings of its symbols
 pub rebound_off : (edit : Edit) (of : List ℕ) (b : Binding) → is_about of edit ≡ false → rebound_by edit of b ≡ b
-rebound_off (Weaken name) of b off = ap (λ hit. cond hit (weakened b) b) off
-rebound_off (MakeLocal name) of b off = ap (λ hit. cond hit (made_local b) b) off
-rebound_off (Rename from to) of b off = refl
-rebound_off (Prefix from to) of b off = refl
-rebound_off (Suffix from to) of b off = refl
-rebound_off (Alias from to) of b off = refl
-rebound_off (AliasPrefix from to) of b off = refl
-rebound_off (AliasSuffix from to) of b off = refl
-rebound_off Underscore of b off = refl
+rebound_off edit of b off = grind arith
 
 pub weakened_off : (edit : Edit) (of : List ℕ) → is_about of edit ≡ false → is_weakened edit of ≡ false
-weakened_off (Weaken name) of off = off
-weakened_off (MakeLocal name) of off = refl
-weakened_off (Rename from to) of off = refl
-weakened_off (Prefix from to) of off = refl
-weakened_off (Suffix from to) of off = refl
-weakened_off (Alias from to) of off = refl
-weakened_off (AliasPrefix from to) of off = refl
-weakened_off (AliasSuffix from to) of off = refl
-weakened_off Underscore of off = refl
+weakened_off edit of off = grind arith
 
 pub bound_off : (edits : List Edit) (of : List ℕ) (b : Binding) → Leave edits of → bound edits of b ≡ b
 bound_off [] of b leave = refl
@@ -90,13 +58,7 @@ stands_for (Common size align) = false
 
 -- it does, for the symbol at a position, or does not
 pub stands_or_not : (b : Binding) → ((k : ℕ) × (b ≡ Weak (fallback.Name k))) ⊎ (stands_for b ≡ false)
-stands_or_not (Weak (fallback.Name k)) = inl (k, refl)
-stands_or_not (Weak (fallback.Place k offset)) = inr refl
-stands_or_not (Weak fallback.Zero) = inr refl
-stands_or_not (Local v) = inr refl
-stands_or_not (Global v) = inr refl
-stands_or_not Undefined = inr refl
-stands_or_not (Common size align) = inr refl
+stands_or_not b = grind arith
 
 -- edits of which none makes a symbol of this name Local
 abbrev pub NoneLocal : List Edit → List ℕ → Type 0
@@ -124,32 +86,13 @@ bound_weak (edit ∷ edits) of f other = ap (bound edits of) (weak_by edit of f 
 
 -- what stands for no symbol comes to stand for none
 own_weakened : (b : Binding) → stands_for b ≡ false → stands_for (weakened b) ≡ false
-own_weakened (Global (value.Place k offset)) own = refl
-own_weakened (Global (value.Absolute n)) own = refl
-own_weakened Undefined own = refl
-own_weakened (Local v) own = refl
-own_weakened (Common size align) own = refl
-own_weakened (Weak f) own = own
+own_weakened b own = grind arith
 
 own_local : (b : Binding) → stands_for b ≡ false → stands_for (made_local b) ≡ false
-own_local (Global v) own = refl
-own_local (Weak (fallback.Place k offset)) own = refl
-own_local (Weak fallback.Zero) own = refl
-own_local (Weak (fallback.Name k)) own = own
-own_local (Local v) own = refl
-own_local Undefined own = refl
-own_local (Common size align) own = refl
+own_local b own = grind arith
 
 pub own_by : (edit : Edit) (of : List ℕ) (b : Binding) → stands_for b ≡ false → stands_for (rebound_by edit of b) ≡ false
-own_by (Weaken name) of b own = elim (bytes_eq of name) as (λ hit. stands_for (cond hit (weakened b) b) ≡ false) [ true ↦ own_weakened b own | false ↦ own ]
-own_by (MakeLocal name) of b own = elim (bytes_eq of name) as (λ hit. stands_for (cond hit (made_local b) b) ≡ false) [ true ↦ own_local b own | false ↦ own ]
-own_by (Rename from to) of b own = own
-own_by (Prefix from to) of b own = own
-own_by (Suffix from to) of b own = own
-own_by (Alias from to) of b own = own
-own_by (AliasPrefix from to) of b own = own
-own_by (AliasSuffix from to) of b own = own
-own_by Underscore of b own = own
+own_by edit of b own = grind arith
 
 pub own_bound : (edits : List Edit) (of : List ℕ) (b : Binding) → stands_for b ≡ false → stands_for (bound edits of b) ≡ false
 own_bound [] of b own = own
@@ -159,22 +102,10 @@ own_bound (edit ∷ edits) of b own = own_bound edits of (rebound_by edit of b) 
 
 -- what stands for no symbol is settled
 pub own_settled : (bindings : List Binding) (b : Binding) → stands_for b ≡ false → settled_binding bindings b ≡ b
-own_settled bindings (Weak (fallback.Name k)) own = absurd (true≢false own)
-own_settled bindings (Weak (fallback.Place k offset)) own = refl
-own_settled bindings (Weak fallback.Zero) own = refl
-own_settled bindings (Local v) own = refl
-own_settled bindings (Global v) own = refl
-own_settled bindings Undefined own = refl
-own_settled bindings (Common size align) own = refl
+own_settled bindings b own = grind arith
 
 pub own_free : (bindings : List Binding) (b : Binding) → stands_for b ≡ false → fallback_binding bindings b ≡ None
-own_free bindings (Weak (fallback.Name k)) own = absurd (true≢false own)
-own_free bindings (Weak (fallback.Place k offset)) own = refl
-own_free bindings (Weak fallback.Zero) own = refl
-own_free bindings (Local v) own = refl
-own_free bindings (Global v) own = refl
-own_free bindings Undefined own = refl
-own_free bindings (Common size align) own = refl
+own_free bindings b own = grind arith
 
 -- a Weak stays one
 pub settled_weak : (bindings : List Binding) (k : ℕ) → (f : Fallback) × (settled_binding bindings (Weak (fallback.Name k)) ≡ Weak f)
@@ -193,31 +124,13 @@ settled_weak bindings k = by (slice_get bindings k)
     by (Some b) = placed b
 
 pub local_settled : (bindings : List Binding) (b : Binding) → is_local (settled_binding bindings b) ≡ is_local b
-local_settled bindings (Weak (fallback.Name k)) = ap is_local (settled_weak bindings k).1
-local_settled bindings (Weak (fallback.Place k offset)) = refl
-local_settled bindings (Weak fallback.Zero) = refl
-local_settled bindings (Local v) = refl
-local_settled bindings (Global v) = refl
-local_settled bindings Undefined = refl
-local_settled bindings (Common size align) = refl
+local_settled bindings b = grind arith
 
 pub global_settled : (bindings : List Binding) (b : Binding) → is_global (settled_binding bindings b) ≡ is_global b
-global_settled bindings (Weak (fallback.Name k)) = ap is_global (settled_weak bindings k).1
-global_settled bindings (Weak (fallback.Place k offset)) = refl
-global_settled bindings (Weak fallback.Zero) = refl
-global_settled bindings (Local v) = refl
-global_settled bindings (Global v) = refl
-global_settled bindings Undefined = refl
-global_settled bindings (Common size align) = refl
+global_settled bindings b = grind arith
 
 pub place_settled : (bindings : List Binding) (b : Binding) → local_place (settled_binding bindings b) ≡ local_place b
-place_settled bindings (Weak (fallback.Name k)) = ap local_place (settled_weak bindings k).1
-place_settled bindings (Weak (fallback.Place k offset)) = refl
-place_settled bindings (Weak fallback.Zero) = refl
-place_settled bindings (Local v) = refl
-place_settled bindings (Global v) = refl
-place_settled bindings Undefined = refl
-place_settled bindings (Common size align) = refl
+place_settled bindings b = grind arith
 
 -- where a symbol stands for another, no edit makes it Local
 abbrev pub StaysWeak : List Edit → Symbol → Type 0

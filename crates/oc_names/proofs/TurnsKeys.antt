@@ -1,5 +1,5 @@
 -- Keys of groups that are edited twice: by the symbols before the second edits make some Local, and then by those after.
-use Rattle.std.proofs.Common.{◌≡◌, ◌⊎◌, ℕ, Bool, true, false, not, ◌&&◌, ◌||◌, cond, bytes_eq, List, [], ◌∷◌, ◌++◌, map, Option, Some, None, inl, inr, refl, sym, ◌∙◌, ap, subst}
+use Rattle.std.proofs.Common.{◌≡◌, ◌⊎◌, ℕ, Bool, true, false, not, ◌&&◌, ◌||◌, cond, bytes_eq, List, [], ◌∷◌, ◌++◌, map, Option, Some, None, inl, inr, refl, sym, ◌∙◌, ap, subst, arith}
 use Rattle.std.specs.List.{AllByRecursion}
 use Rattle.std.proofs.lemmas.{Bool.{true≢false}, Slice.Eq.{bytes_eq-Decides}}
 use Rattle.oc_base.specs.declared.format.Format.{Format}
@@ -40,11 +40,7 @@ module _ (second : List Edit) where
       (ap (λ name. not (is_local t.binding) && bytes_eq name key || has_name zs key) (sym are.0.name) ∙ has) (has_before xs zs key are.1)
     where
       by : (a b c : Bool) → (a ≡ true → b ≡ true) → (not b && c || has_name zs key) ≡ true → (has_name zs key ≡ true → has_name xs key ≡ true) → (not a && c || has_name xs key) ≡ true
-      by true true c fixed h next = next h
-      by true false c fixed h next = absurd (true≢false (sym (fixed refl)))
-      by false b true fixed h next = refl
-      by false true false fixed h next = next h
-      by false false false fixed h next = next h
+      by a b c fixed h next = grind arith
 
   -- a name that the second edits leave stands later where it stood
   has_same : (xs zs : List Symbol) (key : List ℕ) → AreLater xs zs → Leave second key → has_name zs key ≡ has_name xs key
@@ -57,10 +53,7 @@ module _ (second : List Edit) where
       ∙ by (bytes_eq s.name key) refl
     where
       none : (b c : Bool) → (not b && false || has_name xs key) ≡ (not c && false || has_name xs key)
-      none true true = refl
-      none true false = refl
-      none false true = refl
-      none false false = refl
+      none b c = grind arith
 
       by : (hit : Bool) → bytes_eq s.name key ≡ hit → (not (is_local t.binding) && hit || has_name xs key) ≡ (not (is_local s.binding) && hit || has_name xs key)
       by false e = none (is_local t.binding) (is_local s.binding)
@@ -87,9 +80,7 @@ module _ (from to : Format) (first : List Edit) (plain : ArePlain first) (second
       step false h next = next h
 
       later : (b : Bool) → StoodOrLeft zs key → (b || has_name zs key ≡ true) ⊎ Leave second key
-      later b (inr leave) = inr leave
-      later true (inl e) = inl refl
-      later false (inl e) = inl e
+      later b x = grind arith
 
       same : name_of z ≡ z → (has_name (map name_of zs) key ≡ true → StoodOrLeft zs key) → StoodOrLeft (z ∷ zs) key
       same e next = step (is_called key z) (ap (λ (s : Symbol). is_called key s || has_name (map name_of zs) key) (sym e) ∙ has) next

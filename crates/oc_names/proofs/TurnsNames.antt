@@ -1,14 +1,12 @@
 -- Names and keys that are edited twice: the second edits leave what the first renamed.
-use Rattle.std.proofs.Common.{◌≡◌, ℕ, Bool, true, false, ◌||◌, cond, List, [], ◌∷◌, ◌++◌, append-nil, length, drop, Option, Some, None, refl, sym, ◌∙◌, ap}
-use Rattle.std.specs.{Prelude.{take, ◌-◌}, List.{AllByRecursion, list_any}, Option.{unwrap_or}}
+use Rattle.std.proofs.Common.{◌≡◌, ℕ, Bool, true, false, ◌||◌, cond, List, [], ◌∷◌, ◌++◌, append-nil, Option, Some, None, refl, sym, ◌∙◌, ap, arith}
+use Rattle.std.specs.{Prelude.{◌-◌}, List.{AllByRecursion, list_any}, Option.{unwrap_or}}
 use Rattle.std.proofs.lemmas.Bool.{true≢false}
 use Rattle.oc_base.specs.declared.format.Format.{Format}
 use Rattle.oc_linking.specs.{Numbers.{or_else}, Parts.{is_local}}
 use Rattle.oc_neutral.specs.declared.symbol.Symbol.{Symbol}
-use Rattle.oc_names.specs.declared.edit.Edit.{Edit}
-use Rattle.oc_names.specs.declared.edit.Edit.TheVariants.{Rename, Prefix, Suffix, Alias, AliasPrefix, AliasSuffix, Weaken, MakeLocal, Underscore}
-use Rattle.oc_names.specs.{NewNames.{final_name, has_underscores, in_habit, is_underscore, renamed, renamed_by}, Naming.{named, with_name}}
-use Rattle.oc_names.specs.Turns.{is_about, Leave, IsApart}
+use Rattle.oc_names.specs.{declared.edit.Edit.{Edit}, NewNames.{final_name, has_underscores, in_habit, is_underscore, renamed, renamed_by}}
+use Rattle.oc_names.specs.{Naming.{named, with_name}, Turns.{is_about, Leave, IsApart}}
 use Rattle.oc_drop.specs.Steps.{first_in}
 
 -- ... an edit that is not about a name
@@ -42,26 +40,10 @@ pub apart_rest : (first : List Edit) (edit : Edit) (edits : List Edit) (name : L
 apart_rest first edit edits name apart new is = let a = apart new is in (leave_rest edit edits name a.0, leave_rest edit edits new a.1)
 
 renamed_off : (name : List ℕ) (edit : Edit) → is_about name edit ≡ false → renamed_by name edit ≡ None
-renamed_off name (Rename from to) off = ap (λ b. cond b (Some to) None) off
-renamed_off name (Prefix from to) off = ap (λ b. cond b (Some (to ++ drop (length from) name)) None) off
-renamed_off name (Suffix from to) off = ap (λ b. cond b (Some (take (length name - length from) name ++ to)) None) off
-renamed_off name (Alias from to) off = refl
-renamed_off name (AliasPrefix from to) off = refl
-renamed_off name (AliasSuffix from to) off = refl
-renamed_off name (Weaken of) off = refl
-renamed_off name (MakeLocal of) off = refl
-renamed_off name Underscore off = refl
+renamed_off name edit off = grind arith
 
 underscore_off : (name : List ℕ) (edit : Edit) → is_about name edit ≡ false → is_underscore edit ≡ false
-underscore_off name Underscore off = off
-underscore_off name (Rename from to) off = refl
-underscore_off name (Prefix from to) off = refl
-underscore_off name (Suffix from to) off = refl
-underscore_off name (Alias from to) off = refl
-underscore_off name (AliasPrefix from to) off = refl
-underscore_off name (AliasSuffix from to) off = refl
-underscore_off name (Weaken of) off = refl
-underscore_off name (MakeLocal of) off = refl
+underscore_off name edit off = grind arith
 
 none_renames : (edits : List Edit) (name : List ℕ) → Leave edits name → first_in (renamed_by name) edits ≡ None
 none_renames [] name leave = refl

@@ -1,11 +1,10 @@
 -- What is asked of the symbols of an object, by what CanFollow asks of the object that they come from.
-use Rattle.std.proofs.Common.{◌≡◌, ◌≢◌, ℕ, Bool, true, false, List, [], ◌∷◌, length, map, Option, Some, None, Ok, inl, inr, refl, sym, ◌∙◌, ap, subst}
+use Rattle.std.proofs.Common.{◌≡◌, ◌≢◌, ℕ, Bool, true, false, List, [], ◌∷◌, length, map, Option, Some, None, Ok, inl, inr, refl, sym, ◌∙◌, ap, subst, arith}
 use Rattle.std.specs.{Prelude.{slice_get}, List.{AllByRecursion}, Option.{option_map, option_and_then}}
 use Rattle.std.proofs.lemmas.{Bool.{true≢false}, List.{length-map}, Option.{none-some, slice_get-map}}
 use Rattle.oc_base.specs.declared.format.Format.{Format}
 use Rattle.oc_linking.specs.declared.terms.Fallback.TheVariants as fallback
-use Rattle.oc_linking.specs.{declared.terms.Binding.{Binding}, declared.terms.Binding.TheVariants.{Local, Global, Undefined, Common, Weak}}
-use Rattle.oc_linking.specs.{declared.terms.Keep.{Keep}, Parts.{is_local}}
+use Rattle.oc_linking.specs.{declared.terms.Binding.{Binding}, declared.terms.Keep.{Keep}, Parts.{is_local}}
 use Rattle.oc_neutral.specs.{declared.symbol.Symbol.{Symbol}, Objects.{Object}, Normal.{Place, local_place, place_among}, Invariants.{IsObject}}
 use Rattle.oc_neutral.specs.Without.{IsDetached, moved_binding, symbols_stay}
 use Rattle.oc_neutral.specs.declared.reloc.Target.TheVariants as target
@@ -21,20 +20,10 @@ use Rattle.oc_names.proofs.{TurnsWords.{MayPass, words_are, words_fault}, TurnsF
 -- ... bindings that sections and symbols at other positions leave
 
 local_moved : (stay flags : List Bool) (b : Binding) → is_local (moved_binding stay flags b) ≡ is_local b
-local_moved stay flags (Local v) = refl
-local_moved stay flags (Global v) = refl
-local_moved stay flags Undefined = refl
-local_moved stay flags (Common size align) = refl
-local_moved stay flags (Weak f) = refl
+local_moved stay flags b = grind arith
 
 stands_moved : (stay flags : List Bool) (b : Binding) → stands_for (moved_binding stay flags b) ≡ stands_for b
-stands_moved stay flags (Local v) = refl
-stands_moved stay flags (Global v) = refl
-stands_moved stay flags Undefined = refl
-stands_moved stay flags (Common size align) = refl
-stands_moved stay flags (Weak (fallback.Place k offset)) = refl
-stands_moved stay flags (Weak fallback.Zero) = refl
-stands_moved stay flags (Weak (fallback.Name k)) = refl
+stands_moved stay flags b = grind arith
 
 -- what cannot come up was there
 came_from : (b c : Bool) → (b ≡ false → c ≡ false) → c ≡ true → b ≡ true

@@ -1,14 +1,12 @@
 -- Symbols that are named twice, and the further ones that the second edits give.
-use Rattle.std.proofs.Common.{◌≡◌, ℕ, ◌+◌, Bool, true, false, cond, List, [], ◌∷◌, ◌++◌, append-nil, length, map, drop, Option, Some, None, refl, sym, ◌∙◌, ap}
-use Rattle.std.specs.{Prelude.{take, ◌-◌}, List.{AllByRecursion, filter_map, cons_option}, Option.{option_map}}
+use Rattle.std.proofs.Common.{◌≡◌, ℕ, ◌+◌, Bool, true, false, cond, List, [], ◌∷◌, ◌++◌, append-nil, length, map, Option, Some, None, refl, sym, ◌∙◌, ap, arith}
+use Rattle.std.specs.{Prelude.{◌-◌}, List.{AllByRecursion, filter_map, cons_option}, Option.{option_map}}
 use Rattle.std.proofs.lemmas.{Bool.{true≢false}, List.{length-map}}
 use Rattle.oc_base.specs.declared.format.Format.{Format}
 use Rattle.oc_linking.specs.{Numbers.{or_else}, Parts.{is_local}}
 use Rattle.oc_neutral.specs.declared.symbol.Symbol.{Symbol}
 use Rattle.oc_neutral.proofs.Positions.{each_weaker}
-use Rattle.oc_names.specs.declared.edit.Edit.{Edit}
-use Rattle.oc_names.specs.declared.edit.Edit.TheVariants.{Rename, Prefix, Suffix, Alias, AliasPrefix, AliasSuffix, Weaken, MakeLocal, Underscore}
-use Rattle.oc_names.specs.{NewNames.{alias_by, renamed_by}, Matching.{is_alias}}
+use Rattle.oc_names.specs.{declared.edit.Edit.{Edit}, NewNames.{alias_by, renamed_by}, Matching.{is_alias}}
 use Rattle.oc_names.specs.{Naming.{alias, alias_of, aliases, all_named, is_definition, count_named, named, with_name}, Turns.{is_about}}
 use Rattle.oc_drop.specs.Steps.{first_in}
 use Rattle.oc_names.proofs.TurnsNames.{ArePlain, IsApartSymbol, apart_one, apart_rest, leave_first, named_kept, named_local, named_new, named_twice}
@@ -30,26 +28,10 @@ filter_alike f h g (x ∷ xs) all = ap (λ o. cons_option o (filter_map f (map h
 -- ... edits that give no further symbols
 
 alias_off : (name : List ℕ) (edit : Edit) → is_about name edit ≡ false → alias_by name edit ≡ None
-alias_off name (Alias from to) off = ap (λ b. cond b (Some to) None) off
-alias_off name (AliasPrefix from to) off = ap (λ b. cond b (Some (to ++ drop (length from) name)) None) off
-alias_off name (AliasSuffix from to) off = ap (λ b. cond b (Some (take (length name - length from) name ++ to)) None) off
-alias_off name (Rename from to) off = refl
-alias_off name (Prefix from to) off = refl
-alias_off name (Suffix from to) off = refl
-alias_off name (Weaken of) off = refl
-alias_off name (MakeLocal of) off = refl
-alias_off name Underscore off = refl
+alias_off name edit off = grind arith
 
 gives_none : (name : List ℕ) (edit : Edit) → is_alias edit ≡ false → alias_by name edit ≡ None
-gives_none name (Alias from to) not_one = absurd (true≢false not_one)
-gives_none name (AliasPrefix from to) not_one = absurd (true≢false not_one)
-gives_none name (AliasSuffix from to) not_one = absurd (true≢false not_one)
-gives_none name (Rename from to) not_one = refl
-gives_none name (Prefix from to) not_one = refl
-gives_none name (Suffix from to) not_one = refl
-gives_none name (Weaken of) not_one = refl
-gives_none name (MakeLocal of) not_one = refl
-gives_none name Underscore not_one = refl
+gives_none name edit not_one = grind arith
 
 no_alias : (edit : Edit) (s : Symbol) → alias_by s.name edit ≡ None → alias_of edit s ≡ None
 no_alias edit s none = ap (λ o. option_map (alias s) (cond (is_definition s.binding) o None)) none ∙ by (is_definition s.binding)

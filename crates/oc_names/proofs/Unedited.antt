@@ -58,11 +58,7 @@ module _ (n : Object) (fine : IsObject n) where
       )
     where
       by : (c : Binding) → is_strong c ≡ true → (fallback_code c ≡ None) × (placed_fallback (Weak (fallback.Name k)) c ≡ Weak (fallback.Name k))
-      by (Local v) e = absurd (true≢false (sym e))
-      by (Global v) e = (refl, refl)
-      by Undefined e = (refl, refl)
-      by (Common size align) e = (refl, refl)
-      by (Weak f) e = absurd (true≢false (sym e))
+      by c e = grind arith
 
   fallbacks_same : after_fallbacks n.symbols ≡ Ok n.symbols
   fallbacks_same =

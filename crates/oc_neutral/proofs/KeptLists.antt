@@ -107,8 +107,7 @@ kept_next {X} (true ∷ stay) (x ∷ xs) (suc k) d lt below =
     ap (λ ys. x ∷ ys) (kept_next stay xs k d (omega (arith, lt)) (omega (arith, below))) ∙ into (get_or stay k true) (kept_of (take k stay) (take k xs) ++ get_or xs k d ∷ []) (kept_of (take k stay) (take k xs))
   where
     into : (c : Bool) (a b : List X) → x ∷ cond c a b ≡ cond c (x ∷ a) (x ∷ b)
-    into true a b = refl
-    into false a b = refl
+    into c a b = grind arith
 kept_next (false ∷ stay) (x ∷ xs) (suc k) d lt below = kept_next stay xs k d (omega (arith, lt)) (omega (arith, below))
 
 pub kept_more : {X : Type 0} (stay : List Bool) (xs : List X) (k : ℕ) (d : X) → k < length stay → k < length xs

@@ -27,11 +27,7 @@ section_free symbols k = refl
 
 -- what is strong is no Local
 pub strong_outer : (b : Binding) → is_strong b ≡ true → is_local b ≡ false
-strong_outer (Local v) e = absurd (true≢false (sym e))
-strong_outer (Global v) e = refl
-strong_outer Undefined e = refl
-strong_outer (Common size align) e = refl
-strong_outer (Weak f) e = refl
+strong_outer b e = grind arith
 
 module _ (stay : List Bool) (n : Object) (long : length n.sections ≡ length stay) (none : IsDetached stay n) where
   abbrev pub flags : List Bool
@@ -68,9 +64,7 @@ module _ (stay : List Bool) (n : Object) (long : length n.sections ≡ length st
       (each_at (λ (s : Symbol). (not (is_local s.binding) && lies_in_dropped stay s) ≡ false) n.symbols k s none.symbols here)
     where
       by : (a b : Bool) → a ≡ false → (not a && b) ≡ false → b ≡ false
-      by true b out e = absurd (true≢false out)
-      by false true out e = absurd (true≢false e)
-      by false false out e = refl
+      by a b out e = grind arith
 
   -- a symbol that is no Local with a place stays
   symbol_clear : (k : ℕ) (s : Symbol) → slice_get n.symbols k ≡ Some s → local_place s.binding ≡ None → lies_in_dropped stay s ≡ false
@@ -133,11 +127,7 @@ module _ (stay : List Bool) (n : Object) (long : length n.sections ≡ length st
   value_there (value.Absolute x) there e = there
 
   strong_same : (b : Binding) → is_strong (moved_binding stay flags b) ≡ is_strong b
-  strong_same (Local v) = refl
-  strong_same (Global v) = refl
-  strong_same Undefined = refl
-  strong_same (Common size align) = refl
-  strong_same (Weak f) = refl
+  strong_same b = grind arith
 
   fallback_there : (f : Fallback) → IsFallback n f → option_map_or (is_dropped stay) (binding_section (Weak f)) false ≡ false → IsFallback left_object (moved_fallback stay flags f)
   fallback_there (fallback.Place k offset) there e = offset_there k offset there e
@@ -166,11 +156,7 @@ module _ (stay : List Bool) (n : Object) (long : length n.sections ≡ length st
       }))
 
   local_same : (b : Binding) → is_local (moved_binding stay flags b) ≡ is_local b
-  local_same (Local v) = refl
-  local_same (Global v) = refl
-  local_same Undefined = refl
-  local_same (Common size align) = refl
-  local_same (Weak f) = refl
+  local_same b = grind arith
 
   pub distinct : AreDistinct n.symbols → AreDistinct left_object.symbols
   distinct fine i j s t lt here there first second same =
@@ -201,12 +187,7 @@ module _ (stay : List Bool) (n : Object) (long : length n.sections ≡ length st
   less_clear less.Home there e = tt
 
   local_free : (b : Binding) → local_place b ≡ None → local_place (moved_binding stay flags b) ≡ None
-  local_free (Local (value.Place k offset)) free = absurd (none-some (k, offset) (sym free))
-  local_free (Local (value.Absolute x)) free = refl
-  local_free (Global v) free = refl
-  local_free Undefined free = refl
-  local_free (Common size align) free = refl
-  local_free (Weak f) free = refl
+  local_free b free = grind arith
 
   against_none : (t : Target) → IsThere n t → place_among n.symbols t ≡ None → place_among left_object.symbols (moved_target stay flags t) ≡ None
   against_none (target.Section k) there free = section_free left_object.symbols (new_position stay k)
@@ -249,9 +230,7 @@ module _ (stay : List Bool) (n : Object) (long : length n.sections ≡ length st
   refers_clear s x f is e = by (get_or stay s true) (refers_to_dropped stay f.item) is e
     where
       by : (a b : Bool) → a ≡ true → (not (not a) && b) ≡ false → b ≡ false
-      by false b is e = absurd (true≢false (sym is))
-      by true true is e = absurd (true≢false e)
-      by true false is e = refl
+      by a b is e = grind arith
 
   normal_still : (s : ℕ) (r : Reloc) → s < length n.sections → Stays stay s → refers_to_dropped stay r ≡ false → IsNormal n s r → IsNormal left_object (new_position stay s) (moved_reloc stay flags r)
   normal_still s r low is e normal =

@@ -1,14 +1,13 @@
 -- What is mapped.
-use Rattle.std.proofs.Common.{◌≡◌, Option, Some, None, refl, ℕ, zero, suc, ◌+◌, List, [], ◌∷◌, length, map, sym, ◌∙◌, ap}
+use Rattle.std.proofs.Common.{◌≡◌, Option, Some, refl, ℕ, zero, suc, ◌+◌, List, [], ◌∷◌, length, map, sym, ◌∙◌, ap, arith}
 use Rattle.std.specs.{Option.{option_map}, Prelude.{slice_get}, List.{AllByRecursion}}
-use Rattle.std.proofs.lemmas.{Option.{none-some, same_Some}, List.{length-map}, List.Sums.{sum_by-cons}}
+use Rattle.std.proofs.lemmas.{List.{length-map}, List.Sums.{sum_by-cons}}
 use Rattle.oc_chains.specs.{declared.field.Field.{Field}, Lists.{list_of, held_in}}
 use Rattle.oc_neutral.specs.declared.reloc.Reloc.{Reloc}
 
 -- what a mapped option comes from
 pub from_mapped : {X Y : Type 0} (f : X → Y) (o : Option X) (y : Y) → option_map f o ≡ Some y → (x : X) × (o ≡ Some x) × (f x ≡ y)
-from_mapped f None y here = absurd (none-some y here)
-from_mapped f (Some x) y here = (x, refl, same_Some (f x) y here)
+from_mapped f o y here = grind arith
 
 -- what holds at each position holds of each element
 pub all_from : {X : Type 0} (P : X → Type 0) (xs : List X) → ((k : ℕ) (x : X) → slice_get xs k ≡ Some x → P x) → AllByRecursion P xs

@@ -211,18 +211,15 @@ module _ {T : Type 0} where
   emptied_next (b ∷ stay) [] (suc k) lt = either (get_or stay k true) []
     where
       either : (c : Bool) (none : Lists T) → none ≡ cond c none none
-      either true none = refl
-      either false none = refl
+      either c none = grind arith
   emptied_next (true ∷ stay) (xs ∷ ls) (suc k) lt = ap (λ yss. xs ∷ yss) (emptied_next stay ls k (omega (arith, lt))) ∙ into (get_or stay k true) xs (emptied (take k stay) ls) (set (emptied (take k stay) ls) k [])
     where
       into : (c : Bool) (xs : List (Field T)) (a b : Lists T) → xs ∷ cond c a b ≡ cond c (xs ∷ a) (xs ∷ b)
-      into true xs a b = refl
-      into false xs a b = refl
+      into c xs a b = grind arith
   emptied_next (false ∷ stay) (xs ∷ ls) (suc k) lt = ap (λ yss. [] ∷ yss) (emptied_next stay ls k (omega (arith, lt))) ∙ into (get_or stay k true) (emptied (take k stay) ls) (set (emptied (take k stay) ls) k [])
     where
       into : (c : Bool) (a b : Lists T) → [] ∷ cond c a b ≡ cond c ([] ∷ a) ([] ∷ b)
-      into true a b = refl
-      into false a b = refl
+      into c a b = grind arith
 
   pub emptied_more : (stay : List Bool) (ls : Lists T) (k : ℕ) → k < length stay
       → emptied (take (k + 1) stay) ls ≡ cond (get_or stay k true) (emptied (take k stay) ls) (set (emptied (take k stay) ls) k [])

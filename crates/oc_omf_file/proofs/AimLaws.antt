@@ -8,8 +8,7 @@ use Rattle.oc_linking.specs.{declared.terms.Binding.TheVariants.{Local, Global, 
 use Rattle.oc_linking.specs.declared.terms.Value.TheVariants as value
 use Rattle.oc_neutral.specs.{declared.section.Section.{Section}, declared.symbol.Symbol.{Symbol}, declared.reloc.Reloc.{Reloc}, declared.reloc.Target.{Target}}
 use Rattle.oc_neutral.specs.{Bindings.{is_external}, Invariants.{IsSymbol, IsBinding, IsThere}, KeySymbols.{global_place}}
-use Rattle.oc_neutral.specs.{Normal.{Place, takes_section, at_section}, Objects.{Object, reloc_at}}
-use Rattle.oc_neutral.specs.Omf.Relocs.{FixupFrame, ByFlat, ByTarget, BySelf, fixup_row}
+use Rattle.oc_neutral.specs.{Normal.{Place, takes_section, at_section}, Objects.{Object, reloc_at}, Omf.Relocs.{FixupFrame, fixup_row}}
 use Rattle.oc_neutral.specs.declared.reloc.Target.TheVariants as target
 use Rattle.oc_shows.specs.{Manners.{omf_manner}, Seen.{place_at, target_place, section_place}}
 use Rattle.oc_neutral.specs.Rows as rows
@@ -33,9 +32,7 @@ pub record ForSymbol (n : Object) (r : Reloc) : Type 0 where
 
 -- no fixup takes the address of a section
 no_section : (framed : FixupFrame) (l : Less) (s : ℕ) → rows.less_of (fixup_row framed).taken 0 ≡ l → takes_section s l ≡ false
-no_section ByFlat l s e = ap (takes_section s) (sym e)
-no_section ByTarget l s e = ap (takes_section s) (sym e)
-no_section BySelf l s e = ap (takes_section s) (sym e)
+no_section framed l s e = grind arith
 
 module _ (n : Object) (is : IsForOmf n) where
   pub symbol_is : (k : ℕ) (s : Symbol) → slice_get n.symbols k ≡ Some s → IsSymbol n s

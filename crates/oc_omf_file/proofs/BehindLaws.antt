@@ -9,7 +9,7 @@ use Rattle.oc_shelf.proofs.WritingLaws.MemberLemmas.{each_append, each_filter_ma
 use Rattle.oc_omf.specs.declared.structures.Segment as read
 use Rattle.oc_omf.specs.{Structures.{Group, Public, External}, Tables.{Tables}}
 use Rattle.oc_omf_file.specs.{Names.{names_of, names_size}, Pieces.{offsets_of, pieces_of, fields_between}}
-use Rattle.oc_omf_file.specs.Outputs.{Output, external_by, communal_by, public_by, external_output, communal_output, public_output, indexed_outputs, symbol_outputs, piece_outputs, data_outputs, segment_output, outputs_of}
+use Rattle.oc_omf_file.specs.Outputs.{Output, external_by, communal_by, public_by, external_output, communal_output, public_output, indexed_outputs, symbol_outputs, piece_outputs, data_outputs, segment_output}
 use Rattle.oc_omf_file.specs.Canonical.{segment_of}
 use Rattle.oc_omf_file.specs.Outputs as output
 use Rattle.oc_omf_file.proofs.GivenLaws.{names_by, segments_by, groups_by, publics_by, externals_by, pieces_by, given}
@@ -173,16 +173,7 @@ symbols_are n =
 
 -- an output of a symbol defines no segment and no group, and has no data
 pub symbol_silent : (n : Object) (o : Output) → OfSymbol n o → (names_by o ≡ []) × (segments_by n o ≡ []) × (groups_by o ≡ []) × (pieces_by n o ≡ [])
-symbol_silent n output.Header e = absurd e
-symbol_silent n (output.Names names) e = absurd e
-symbol_silent n (output.Segment k s) e = absurd e
-symbol_silent n output.Group e = absurd e
-symbol_silent n (output.External k s) e = (refl, refl, refl, refl)
-symbol_silent n (output.Communal k s) e = (refl, refl, refl, refl)
-symbol_silent n (output.Public k s) e = (refl, refl, refl, refl)
-symbol_silent n (output.Data k s from to) e = absurd e
-symbol_silent n (output.Fixups k s from to) e = absurd e
-symbol_silent n output.End e = absurd e
+symbol_silent n o e = grind arith
 
 symbol_behind : (n : Object) (front : List Output) (o : Output) → OfSymbol n o → IsSymbolAt n front o → Behind n front o
 symbol_behind n front output.Header e at = absurd e

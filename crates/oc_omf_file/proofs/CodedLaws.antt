@@ -7,7 +7,7 @@ use Rattle.oc_linking.specs.{declared.terms.Patch.{Patch}, declared.terms.Less.{
 use Rattle.oc_linking.specs.declared.terms.Less.TheVariants as less
 use Rattle.oc_chains.specs.{declared.field.Field.{Field}, Lists.{list_of}}
 use Rattle.oc_neutral.specs.{declared.section.Section.{Section}, declared.reloc.Reloc.{Reloc}, Invariants.{IsObject}, Objects.{Object, reloc_at, reloc_among}}
-use Rattle.oc_neutral.specs.{Omf.Relocs.{FixupFrame, ByFlat, ByTarget, BySelf, fixup_row}, Rows.{Row, taken_of}}
+use Rattle.oc_neutral.specs.{Omf.Relocs.{FixupFrame, fixup_row}, Rows.{Row, taken_of}}
 use Rattle.oc_target.specs.{Fitted.{IsFitted}, Meets.{MeetsReloc}, OmfMeets.{MeetsOmf, OmfSection, OmfReloc}}
 use Rattle.oc_neutral.specs.Rows as rows
 use Rattle.oc_neutral.proofs.{Mapped.{from_mapped}, Positions.{each_at, there_at}, Standing.{ends_by, wide_in}}
@@ -38,14 +38,7 @@ field_there (y ∷ xs) at r h = by (λ g. field_there xs at r g) (eqb y.at at) r
 
 -- what a fixup's row takes is what is taken
 less_back : (framed : FixupFrame) (l : Less) → (fixup_row framed).taken ≡ taken_of l → (k : ℕ) → rows.less_of (fixup_row framed).taken k ≡ l
-less_back framed less.Zero e k = ap (λ x. rows.less_of x k) e
-less_back framed less.Place e k = ap (λ x. rows.less_of x k) e
-less_back framed less.GotBase e k = ap (λ x. rows.less_of x k) e
-less_back framed less.ImageBase e k = ap (λ x. rows.less_of x k) e
-less_back framed less.Home e k = ap (λ x. rows.less_of x k) e
-less_back ByFlat (less.Section j) e k = absurd (cc)
-less_back ByTarget (less.Section j) e k = absurd (cc)
-less_back BySelf (less.Section j) e k = absurd (cc)
+less_back framed l e k = grind arith
 
 module _ (n : Object) (is : IsForOmf n) where
   pub section_is : (k : ℕ) (s : Section) → slice_get n.sections k ≡ Some s → OmfSection s

@@ -83,8 +83,7 @@ placed bytes value at (x ∷ xs) = record { at = at; part = Ok (value x) } ∷ p
 
 -- at the end there are no more
 pub each_at_end : {X : Type 0} (n : ℕ) (read : List ℕ → ℕ → Reading X) (b : List ℕ) (at : ℕ) → at ≡ length b → each_upto n read b at ≡ []
-each_at_end zero read b at e = refl
-each_at_end (suc n) read b at e = let past : nat_lt at (length b) ≡ false = grind (arith, nat_tests) in rw past refl
+each_at_end n read b at e = grind arith
 
 -- structures that stand up to the end are read, where there are steps enough
 each_upto_read : {X Y : Type 0} (read : List ℕ → ℕ → Reading Y) (bytes : X → List ℕ) (value : X → Y) (b : List ℕ) (n at : ℕ) (xs : List X)

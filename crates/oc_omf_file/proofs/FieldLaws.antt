@@ -9,8 +9,7 @@ use Rattle.oc_linking.proofs.Storing.{field_holds}
 use Rattle.oc_algebra.specs.{Residues.{reduced_number}, Fields.{extended, to_field_of, from_field_of}}
 use Rattle.oc_algebra.proofs.Laws.{reduced_reduced}
 use Rattle.oc_neutral.specs.{declared.section.Section.{Section}, declared.reloc.Reloc.{Reloc}, declared.reloc.Target.{Target}, Building.{is_zero}}
-use Rattle.oc_neutral.specs.{Normal.{Place, at_section}, Objects.{Object, reloc_at}, Omf.Relocs.{FixupFrame, ByFlat, ByTarget, BySelf, fixup_row}}
-use Rattle.oc_neutral.specs.Rows.{Row, shift_of}
+use Rattle.oc_neutral.specs.{Normal.{Place, at_section}, Objects.{Object, reloc_at}, Omf.Relocs.{FixupFrame, fixup_row}, Rows.{Row, shift_of}}
 use Rattle.oc_shows.specs.{Manners.{omf_manner}, RowFields.{number_in, row_field}, RowValues.{row_reloc}, Seen.{section_place, seen_reloc, seen_target}}
 use Rattle.oc_target.specs.Meets.{MeetsReloc}
 use Rattle.oc_neutral.specs.Rows as rows
@@ -31,19 +30,14 @@ held_by shift a = no_error (to_field_of W32 Four shift a) (four_bytes_hold shift
 
 -- a row of OMF has four bytes, and no hint
 row_width : (f : FixupFrame) → (fixup_row f).width ≡ Four
-row_width ByFlat = refl
-row_width ByTarget = refl
-row_width BySelf = refl
+row_width f = grind arith
 
 row_hint : (f : FixupFrame) → (fixup_row f).hint ≡ Plain
-row_hint ByFlat = refl
-row_hint ByTarget = refl
-row_hint BySelf = refl
+row_hint f = grind arith
 
 -- the form of what is written is the relocation's, and its addend is reduced
 pub form_kept : (r : Reloc) (o : Option Place) → (at_section W32 r o).form ≡ r.form
-form_kept r None = refl
-form_kept r (Some place) = refl
+form_kept r o = grind arith
 
 addend_reduced : (r : Reloc) (o : Option Place) → reduced_number W32 (at_section W32 r o).addend ≡ (at_section W32 r o).addend
 addend_reduced r None = reduced_reduced W32 _
@@ -119,8 +113,7 @@ module _ (n : Object) (is : IsForOmf n) where
   fixups = fixed_from [] (subrecords_upto (entries n is) (length (entries n is)))
 
   both : (p q : Bool) → (p && q) ≡ true → (p ≡ true) × (q ≡ true)
-  both true q e = (refl, e)
-  both false q e = absurd (true≢false (sym e))
+  both p q e = grind arith
 
   -- what relocates an offset of a section is the fixup of a field there
   relocated : (k at i : ℕ) (f : Fixed) (h : slice_get fixups i ≡ Some f) → relocates k at f ≡ true → let g = fixups_are n is (length (entries n is)) i f h in (g.k ≡ k) × (g.x.at ≡ at)
@@ -134,8 +127,7 @@ module _ (n : Object) (is : IsForOmf n) where
       (omega (arith, same), sym (eqb-true at g.x.at (only (nat_eq at g.x.at) place)))
     where
       only : (b : Bool) → (b || false) ≡ true → b ≡ true
-      only true e = refl
-      only false e = e
+      only b e = grind arith
 
   relocates_it : (k at i : ℕ) (f : Fixed) (g : IsFixed n is (length (entries n is)) f) → g.k ≡ k → g.x.at ≡ at → relocates k at f ≡ true
   relocates_it k at i f g ek eat =

@@ -1,5 +1,5 @@
 -- A fixup that is written is read.
-use Rattle.std.proofs.Common.{◌≡◌, ℕ, ◌+◌, ◌*◌, ◌/◌, ◌%◌, ◌^◌, ◌<◌, ◌⊎◌, inl, inr, Bool, true, false, not, nat_le, if◌then◌else◌, List, [], ◌∷◌, ◌++◌, Ok, refl, ◌∙◌, ap, subst, arith, append-nil}
+use Rattle.std.proofs.Common.{◌≡◌, ℕ, ◌+◌, ◌*◌, ◌/◌, ◌%◌, ◌^◌, ◌<◌, ◌⊎◌, Bool, true, false, not, nat_le, if◌then◌else◌, List, [], ◌∷◌, ◌++◌, Ok, refl, ◌∙◌, ap, subst, arith, append-nil}
 use Rattle.oc_neutral.specs.KindRules.{has}
 use Rattle.oc_omf.specs.{declared.structures.Method.{Method}, declared.structures.Datum.{Datum}, declared.structures.Subrecord.{Subrecord}}
 use Rattle.oc_omf.specs.Cursor.{next, number_read}
@@ -110,10 +110,7 @@ abbrev pub fixup_said : Bool → Bool → ℕ → Method → Subrecord
 fixup_said self home at m = subrecord.Fixup (record { segment_relative = not self; location = 9; offset = at; frame = datum.Explicit (frame_by home); target = datum.Explicit m; displacement = 0 })
 
 fix_is : (home : Bool) (m : Method) → (m.number ≡ 0) ⊎ (m.number ≡ 2) → IsFix (fix_of (frame_by home) m) (frame_by home).number m.number
-fix_is true m (inl e) = rw e (record { own_frame = refl; frame_is = refl; own_target = refl; target_is = refl; displaced = refl })
-fix_is true m (inr e) = rw e (record { own_frame = refl; frame_is = refl; own_target = refl; target_is = refl; displaced = refl })
-fix_is false m (inl e) = rw e (record { own_frame = refl; frame_is = refl; own_target = refl; target_is = refl; displaced = refl })
-fix_is false m (inr e) = rw e (record { own_frame = refl; frame_is = refl; own_target = refl; target_is = refl; displaced = refl })
+fix_is home m y = grind arith
 
 reads_frame_by : (home : Bool) (m : Method) → (m.number ≡ 0) ⊎ (m.number ≡ 2) → Reads (frame_read (fix_of (frame_by home) m)) (frame_bytes (frame_by home)) (datum.Explicit (frame_by home))
 reads_frame_by true m e = reads_bare_frame (fix_of (frame_by true) m) 5 m.number (fix_is true m e) refl

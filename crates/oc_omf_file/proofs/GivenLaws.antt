@@ -1,5 +1,5 @@
 -- What the entries of outputs define and mention, whatever their places are.
-use Rattle.std.proofs.Common.{◌≡◌, ℕ, zero, suc, ◌+◌, false, List, [], ◌∷◌, ◌++◌, length, map, take, Option, Some, None, Ok, refl, ◌∙◌, ap}
+use Rattle.std.proofs.Common.{◌≡◌, ℕ, zero, suc, ◌+◌, false, List, [], ◌∷◌, ◌++◌, length, map, take, Option, Some, None, Ok, refl, ◌∙◌, ap, arith}
 use Rattle.std.specs.{Prelude.{flat_map, slice_get, slice_range}, Option.{option_map_or}}
 use Rattle.std.proofs.lemmas.Option.{none-some, same_Some}
 use Rattle.oc_neutral.specs.{KeySymbols.{global_place}, Normal.{Place}, Objects.{Object}}
@@ -125,32 +125,25 @@ mentions_by output.End = []
 
 -- ... an entry of a defined symbol, by where it is defined
 public_names : (at : ℕ) (name : List ℕ) (place : Option Place) → all_read (option_map_or (made_public at name) place (says_nothing at)).names ≡ []
-public_names at name None = refl
-public_names at name (Some x) = refl
+public_names at name place = grind arith
 
 public_segments : (at : ℕ) (name : List ℕ) (place : Option Place) → all_read (option_map_or (made_public at name) place (says_nothing at)).segments ≡ []
-public_segments at name None = refl
-public_segments at name (Some x) = refl
+public_segments at name place = grind arith
 
 public_groups : (at : ℕ) (name : List ℕ) (place : Option Place) → all_read (option_map_or (made_public at name) place (says_nothing at)).groups ≡ []
-public_groups at name None = refl
-public_groups at name (Some x) = refl
+public_groups at name place = grind arith
 
 public_publics : (at : ℕ) (name : List ℕ) (place : Option Place) → all_read (option_map_or (made_public at name) place (says_nothing at)).publics ≡ option_map_or (public_of name) place []
-public_publics at name None = refl
-public_publics at name (Some x) = refl
+public_publics at name place = grind arith
 
 public_externals : (at : ℕ) (name : List ℕ) (place : Option Place) → all_read (option_map_or (made_public at name) place (says_nothing at)).externals ≡ []
-public_externals at name None = refl
-public_externals at name (Some x) = refl
+public_externals at name place = grind arith
 
 public_pieces : (at : ℕ) (name : List ℕ) (place : Option Place) → all_read (option_map_or (made_public at name) place (says_nothing at)).pieces ≡ []
-public_pieces at name None = refl
-public_pieces at name (Some x) = refl
+public_pieces at name place = grind arith
 
 public_mentions : (at : ℕ) (name : List ℕ) (place : Option Place) → entry_mentions (option_map_or (made_public at name) place (says_nothing at)) ≡ option_map_or (mention_at name) place []
-public_mentions at name None = refl
-public_mentions at name (Some x) = refl
+public_mentions at name place = grind arith
 
 -- ... each output gives what its entry defines and mentions
 names_given : (n : Object) (at : ℕ) (o : Output) → all_read (made n at o).names ≡ names_by o
@@ -170,76 +163,22 @@ names_given n at (output.Fixups k s from to) = refl
 names_given n at output.End = refl
 
 segments_given : (n : Object) (at : ℕ) (o : Output) → all_read (made n at o).segments ≡ segments_by n o
-segments_given n at output.Header = refl
-segments_given n at (output.Names names) = refl
-segments_given n at (output.Segment k s) = refl
-segments_given n at output.Group = refl
-segments_given n at (output.External k s) = refl
-segments_given n at (output.Communal k s) = refl
-segments_given n at (output.Public k s) = public_segments at s.name (global_place s.binding)
-segments_given n at (output.Data k s from to) = refl
-segments_given n at (output.Fixups k s from to) = refl
-segments_given n at output.End = refl
+segments_given n at o = grind arith
 
 groups_given : (n : Object) (at : ℕ) (o : Output) → all_read (made n at o).groups ≡ groups_by o
-groups_given n at output.Header = refl
-groups_given n at (output.Names names) = refl
-groups_given n at (output.Segment k s) = refl
-groups_given n at output.Group = refl
-groups_given n at (output.External k s) = refl
-groups_given n at (output.Communal k s) = refl
-groups_given n at (output.Public k s) = public_groups at s.name (global_place s.binding)
-groups_given n at (output.Data k s from to) = refl
-groups_given n at (output.Fixups k s from to) = refl
-groups_given n at output.End = refl
+groups_given n at o = grind arith
 
 publics_given : (n : Object) (at : ℕ) (o : Output) → all_read (made n at o).publics ≡ publics_by o
-publics_given n at output.Header = refl
-publics_given n at (output.Names names) = refl
-publics_given n at (output.Segment k s) = refl
-publics_given n at output.Group = refl
-publics_given n at (output.External k s) = refl
-publics_given n at (output.Communal k s) = refl
-publics_given n at (output.Public k s) = public_publics at s.name (global_place s.binding)
-publics_given n at (output.Data k s from to) = refl
-publics_given n at (output.Fixups k s from to) = refl
-publics_given n at output.End = refl
+publics_given n at o = grind arith
 
 externals_given : (n : Object) (at : ℕ) (o : Output) → all_read (made n at o).externals ≡ externals_by o
-externals_given n at output.Header = refl
-externals_given n at (output.Names names) = refl
-externals_given n at (output.Segment k s) = refl
-externals_given n at output.Group = refl
-externals_given n at (output.External k s) = refl
-externals_given n at (output.Communal k s) = refl
-externals_given n at (output.Public k s) = public_externals at s.name (global_place s.binding)
-externals_given n at (output.Data k s from to) = refl
-externals_given n at (output.Fixups k s from to) = refl
-externals_given n at output.End = refl
+externals_given n at o = grind arith
 
 pieces_given : (n : Object) (at : ℕ) (o : Output) → all_read (made n at o).pieces ≡ pieces_by n o
-pieces_given n at output.Header = refl
-pieces_given n at (output.Names names) = refl
-pieces_given n at (output.Segment k s) = refl
-pieces_given n at output.Group = refl
-pieces_given n at (output.External k s) = refl
-pieces_given n at (output.Communal k s) = refl
-pieces_given n at (output.Public k s) = public_pieces at s.name (global_place s.binding)
-pieces_given n at (output.Data k s from to) = refl
-pieces_given n at (output.Fixups k s from to) = refl
-pieces_given n at output.End = refl
+pieces_given n at o = grind arith
 
 mentions_given : (n : Object) (at : ℕ) (o : Output) → entry_mentions (made n at o) ≡ mentions_by o
-mentions_given n at output.Header = refl
-mentions_given n at (output.Names names) = refl
-mentions_given n at (output.Segment k s) = refl
-mentions_given n at output.Group = refl
-mentions_given n at (output.External k s) = refl
-mentions_given n at (output.Communal k s) = refl
-mentions_given n at (output.Public k s) = public_mentions at s.name (global_place s.binding)
-mentions_given n at (output.Data k s from to) = refl
-mentions_given n at (output.Fixups k s from to) = refl
-mentions_given n at output.End = refl
+mentions_given n at o = grind arith
 
 -- what outputs define
 abbrev pub given : Object → List Output → Tables

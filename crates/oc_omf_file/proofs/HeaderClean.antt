@@ -1,7 +1,6 @@
 -- No entry of the canonical file has a fault of the first stage.
-use Rattle.std.proofs.Common.{◌≡◌, ℕ, zero, suc, ◌+◌, Bool, false, not, List, [], ◌∷◌, length, take, Some, refl, sym, ◌∙◌, ap, subst, arith}
+use Rattle.std.proofs.Common.{◌≡◌, ℕ, suc, ◌+◌, Bool, false, not, List, [], ◌∷◌, length, take, Some, refl, sym, ◌∙◌, ap, subst, arith}
 use Rattle.std.specs.{Prelude.{slice_get}, List.{enumerate_from}, Option.{option_map_or}}
-use Rattle.std.proofs.lemmas.Option.{none-some}
 use Rattle.oc_neutral.specs.Objects.{Object}
 use Rattle.oc_neutral.proofs.Positions.{there_at}
 use Rattle.oc_omf_records.specs.declared.records.Entry.{Entry as Record}
@@ -30,9 +29,7 @@ record_clean n x output.End begun place first = (refl, (refl, (refl, (refl, (ref
 
 -- of an element with none before it
 first_place : {X : Type 0} (xs : List X) (i : ℕ) (x : X) → slice_get xs i ≡ Some x → take i xs ≡ [] → i ≡ 0
-first_place xs zero x h none = refl
-first_place [] (suc i) x h none = absurd (none-some x h)
-first_place (y ∷ xs) (suc i) x h none = let long : suc (length (take i xs)) ≡ 0 = ap length none in absurd (omega (arith, long))
+first_place xs i x h none = grind arith
 
 length-places : (at : ℕ) (xs : List Written) → length (places_from at xs) ≡ length xs
 length-places at [] = refl

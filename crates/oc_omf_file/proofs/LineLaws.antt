@@ -68,22 +68,14 @@ communal_lines [] = refl
 communal_lines (x ∷ xs) = by x.1.binding refl (communal_lines xs)
   where
     by : (b : Binding) → x.1.binding ≡ b → map line_of (filter_map communal_output xs) ≡ where_lines is_common xs → map line_of (filter_map communal_output (x ∷ xs)) ≡ where_lines is_common (x ∷ xs)
-    by (Common size align) e rest = rw e (ap (λ ls. line_by x.0 ∷ ls) rest)
-    by (Local v) e rest = rw e rest
-    by (Global v) e rest = rw e rest
-    by Undefined e rest = rw e rest
-    by (Weak f) e rest = rw e rest
+    by b e rest = grind arith
 
 public_lines : (xs : List (ℕ × Symbol)) → map line_of (filter_map public_output xs) ≡ where_lines is_global xs
 public_lines [] = refl
 public_lines (x ∷ xs) = by x.1.binding refl (public_lines xs)
   where
     by : (b : Binding) → x.1.binding ≡ b → map line_of (filter_map public_output xs) ≡ where_lines is_global xs → map line_of (filter_map public_output (x ∷ xs)) ≡ where_lines is_global (x ∷ xs)
-    by (Global v) e rest = rw e (ap (λ ls. line_by x.0 ∷ ls) rest)
-    by (Local v) e rest = rw e rest
-    by Undefined e rest = rw e rest
-    by (Common size align) e rest = rw e rest
-    by (Weak f) e rest = rw e rest
+    by b e rest = grind arith
 
 pub lines_are : (n : Object) → map line_of (symbol_outputs n) ≡ omf_lines n
 unfolding symbol_outputs

@@ -1,8 +1,8 @@
 -- The entries of the canonical file, as they read.
-use Rattle.std.proofs.Common.{◌≡◌, ℕ, zero, suc, ◌+◌, ◌-◌, ◌^◌, ◌<◌, ◌≤◌, ◌⊎◌, inl, inr, Bool, true, false, List, [], ◌∷◌, ◌++◌, length, map, Some, None, Ok, refl, sym, ◌∙◌, ap, subst, arith, append_assoc}
+use Rattle.std.proofs.Common.{◌≡◌, ℕ, zero, suc, ◌+◌, ◌-◌, ◌^◌, ◌<◌, ◌≤◌, ◌⊎◌, Bool, true, false, List, [], ◌∷◌, ◌++◌, length, map, Some, None, Ok, refl, sym, ◌∙◌, ap, subst, arith, append_assoc}
 use Rattle.std.specs.{Prelude.{flat_map, slice_get, slice_range, codes, if◌then◌else◌, nat_eq}, Option.{option_map_or}, List.{enumerate_from}}
 use Rattle.std.proofs.lemmas.Option.{none-some, same_Some}
-use Rattle.oc_linking.specs.{declared.terms.Binding.{Binding}, declared.terms.Binding.TheVariants.{Local, Global, Undefined, Common, Weak}}
+use Rattle.oc_linking.specs.declared.terms.Binding.{Binding}
 use Rattle.oc_chains.specs.declared.field.Field.{Field}
 use Rattle.oc_neutral.specs.{declared.section.Section.{Section}, declared.symbol.Symbol.{Symbol}, declared.reloc.Reloc.{Reloc}, declared.reloc.Target.{Target}}
 use Rattle.oc_neutral.specs.{KeySymbols.{global_place}, Normal.{Place}, Objects.{Object}, Rows.{Row}, Omf.Relocs.{FixupFrame, ByTarget, BySelf}}
@@ -73,8 +73,7 @@ Fits n output.End = Unit {0}
 
 -- a target is written by method 0 or 2
 method_by : (n : Object) (t : Target) → ((target_method n t).number ≡ 0) ⊎ ((target_method n t).number ≡ 2)
-method_by n (target.Section k) = inl refl
-method_by n (target.Symbol k) = inr refl
+method_by n t = grind arith
 
 -- a field's fixup
 field_read : (n : Object) (from : ℕ) (x : Field Reloc) → IsWrittenField n from x → Reads (subrecord_read true) (field_fixup n from x) (made_fixup n from x)
@@ -154,25 +153,13 @@ unfolding outputs_of
 outputs_are n = simp append_assoc
 
 external_inner : (x : ℕ × Symbol) (b : Binding) (o : Output) → external_by b x.0 x.1 ≡ Some o → IsInner o
-external_inner x Undefined o e = subst IsInner (same_Some (output.External x.0 x.1) o e) refl
-external_inner x (Local v) o e = absurd (none-some o e)
-external_inner x (Global v) o e = absurd (none-some o e)
-external_inner x (Common size align) o e = absurd (none-some o e)
-external_inner x (Weak f) o e = absurd (none-some o e)
+external_inner x b o e = grind arith
 
 communal_inner : (x : ℕ × Symbol) (b : Binding) (o : Output) → communal_by b x.0 x.1 ≡ Some o → IsInner o
-communal_inner x (Common size align) o e = subst IsInner (same_Some (output.Communal x.0 x.1) o e) refl
-communal_inner x (Local v) o e = absurd (none-some o e)
-communal_inner x (Global v) o e = absurd (none-some o e)
-communal_inner x Undefined o e = absurd (none-some o e)
-communal_inner x (Weak f) o e = absurd (none-some o e)
+communal_inner x b o e = grind arith
 
 public_inner : (x : ℕ × Symbol) (b : Binding) (o : Output) → public_by b x.0 x.1 ≡ Some o → IsInner o
-public_inner x (Global v) o e = subst IsInner (same_Some (output.Public x.0 x.1) o e) refl
-public_inner x (Local v) o e = absurd (none-some o e)
-public_inner x Undefined o e = absurd (none-some o e)
-public_inner x (Common size align) o e = absurd (none-some o e)
-public_inner x (Weak f) o e = absurd (none-some o e)
+public_inner x b o e = grind arith
 
 symbols_inner : (n : Object) (i : ℕ) (o : Output) → slice_get (symbol_outputs n) i ≡ Some o → IsInner o
 unfolding symbol_outputs

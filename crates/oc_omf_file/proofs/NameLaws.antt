@@ -33,16 +33,14 @@ any_append test [] y among = absurd (true≢false (sym among))
 any_append test (x ∷ xs) y among = by_test (any_append test xs y) (test x) among
   where
     by_test : (list_any test xs ≡ true → list_any test (xs ++ y ∷ []) ≡ true) → (t : Bool) → (t || list_any test xs) ≡ true → (t || list_any test (xs ++ y ∷ [])) ≡ true
-    by_test later true among = refl
-    by_test later false among = later among
+    by_test later t among = grind arith
 
 any_last : (test : List ℕ → Bool) (xs : List (List ℕ)) (y : List ℕ) → test y ≡ true → list_any test (xs ++ y ∷ []) ≡ true
 any_last test [] y passes = rw passes refl
 any_last test (x ∷ xs) y passes = by_test (test x) (any_last test xs y passes)
   where
     by_test : (t : Bool) → list_any test (xs ++ y ∷ []) ≡ true → (t || list_any test (xs ++ y ∷ [])) ≡ true
-    by_test true later = refl
-    by_test false later = later
+    by_test t later = grind arith
 
 with_name-keeps : (test : List ℕ → Bool) (xs : List (List ℕ)) (y : List ℕ) → list_any test xs ≡ true → list_any test (with_name xs y) ≡ true
 with_name-keeps test xs y among = by_test (list_any (bytes_eq y) xs)
@@ -128,8 +126,7 @@ missing_less : (class : List ℕ) (xs : List (List ℕ)) (y : List ℕ) → miss
 missing_less class xs y = by_test (list_any (bytes_eq class) xs) refl
   where
     small : (t : Bool) → cond t 0 1 ≤ 1
-    small true = omega arith
-    small false = omega arith
+    small t = grind arith
 
     by_test : (t : Bool) → list_any (bytes_eq class) xs ≡ t → missing class (xs ++ y ∷ []) ≤ cond t 0 1
     by_test true e = let still : missing class (xs ++ y ∷ []) ≡ 0 = ap (λ b. cond b 0 1) (any_append (bytes_eq class) xs y e) in omega (arith, still)
@@ -224,15 +221,7 @@ abbrev pub IsShort : List ℕ → Type 0
 IsShort name = length name ≤ 255
 
 class_short : (kind : Kind) (class : List ℕ) → omf_class kind ≡ Some class → length class ≤ 5
-class_short Code class e = subst (λ (c : List ℕ). length c ≤ 5) (same_Some (codes "CODE") class e) (omega arith)
-class_short ReadOnly class e = subst (λ (c : List ℕ). length c ≤ 5) (same_Some (codes "CONST") class e) (omega arith)
-class_short Data class e = subst (λ (c : List ℕ). length c ≤ 5) (same_Some (codes "DATA") class e) (omega arith)
-class_short Zero class e = subst (λ (c : List ℕ). length c ≤ 5) (same_Some (codes "BSS") class e) (omega arith)
-class_short Init class e = absurd (none-some class e)
-class_short Fini class e = absurd (none-some class e)
-class_short Debug class e = absurd (none-some class e)
-class_short Exception class e = absurd (none-some class e)
-class_short Note class e = absurd (none-some class e)
+class_short kind class e = grind arith
 
 pub names_short : (n : Object) → ((k : ℕ) (s : Section) → slice_get n.sections k ≡ Some s → IsClassed s × IsShort s.name)
     → (k : ℕ) (name : List ℕ) → slice_get (names_of n) k ≡ Some name → IsShort name

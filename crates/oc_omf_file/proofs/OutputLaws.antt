@@ -1,12 +1,11 @@
 -- The entries of the canonical file, in their order: what stands before each, and what all define.
-use Rattle.std.proofs.Common.{◌≡◌, ℕ, zero, suc, ◌+◌, Bool, true, false, List, [], ◌∷◌, ◌++◌, length, map, take, Some, refl, sym, ◌∙◌, ap, subst, arith, append_assoc}
+use Rattle.std.proofs.Common.{◌≡◌, ℕ, zero, suc, ◌+◌, Bool, List, [], ◌∷◌, ◌++◌, length, map, take, Some, refl, sym, ◌∙◌, ap, subst, arith, append_assoc}
 use Rattle.std.specs.{Prelude.{flat_map, slice_get, nat_eq, if◌then◌else◌}, List.{enumerate_from}}
 use Rattle.std.proofs.lemmas.{Grind.{flat_map-append}, Option.{none-some, same_Some}}
 use Rattle.oc_neutral.specs.{declared.section.Section.{Section}, Objects.{Object}}
 use Rattle.oc_shelf.proofs.WritingLaws.MemberLemmas.{each_append, each_flat_map, each_map}
 use Rattle.oc_omf_file.specs.{Names.{names_of, filled_from}, Pieces.{pieces_of, fields_between}}
-use Rattle.oc_omf_file.specs.Outputs.{Output, external_by, communal_by, public_by, external_output, communal_output, public_output, indexed_outputs, symbol_outputs, piece_outputs, data_outputs, segment_output, outputs_of}
-use Rattle.oc_omf_file.specs.Canonical.{segment_of}
+use Rattle.oc_omf_file.specs.{Outputs.{Output, symbol_outputs, piece_outputs, data_outputs, segment_output, outputs_of}, Canonical.{segment_of}}
 use Rattle.oc_omf_file.specs.Outputs as output
 use Rattle.oc_omf_file.proofs.GivenLaws.{names_by, segments_by, groups_by, publics_by, externals_by, pieces_by, mentions_by, given}
 use Rattle.oc_omf_file.proofs.NameLaws.{filled_names, filled_small, IsShort}
@@ -119,10 +118,7 @@ module _ (n : Object) (short : (k : ℕ) (name : List ℕ) → slice_get (names_
       (each_flat_map (λ o. g o ≡ []) (data_outputs n) xs (λ j x h. each_flat_map (λ o. g o ≡ []) (piece_outputs n x.0 x.1) (pieces_of n x.0 x.1) (λ m y f. one x.0 x.1 y (nat_eq (length (fields_between n x.0 y.0 y.1)) 0))))
     where
       one : (k : ℕ) (s : Section) (x : ℕ × ℕ) (empty : Bool) (i : ℕ) (o : Output) → slice_get (output.Data k s x.0 x.1 ∷ (if empty then [] else output.Fixups k s x.0 x.1 ∷ [])) i ≡ Some o → g o ≡ []
-      one k s x empty zero o h = subst (λ p. g p ≡ []) (same_Some (output.Data k s x.0 x.1) o h) (none k s x.0 x.1).0
-      one k s x true (suc i) o h = absurd (none-some o h)
-      one k s x false (suc zero) o h = subst (λ p. g p ≡ []) (same_Some (output.Fixups k s x.0 x.1) o h) (none k s x.0 x.1).1
-      one k s x false (suc (suc i)) o h = absurd (none-some o h)
+      one k s x empty i o h = grind arith
 
   filled_tables : given n filled ≡ made_tables n
   filled_tables =

@@ -1,5 +1,5 @@
 -- Subrecords in their places, and the fixups among them.
-use Rattle.std.proofs.Common.{◌≡◌, ℕ, zero, suc, ◌+◌, ◌-◌, true, false, not, List, [], ◌∷◌, ◌++◌, length, map, Option, Some, None, Result, Ok, Err, refl, sym, ◌∙◌, ap}
+use Rattle.std.proofs.Common.{◌≡◌, ℕ, zero, suc, ◌+◌, ◌-◌, true, false, not, List, [], ◌∷◌, ◌++◌, length, map, Option, Some, Result, Ok, Err, refl, sym, ◌∙◌, ap, arith}
 use Rattle.std.specs.{Prelude.{flat_map, slice_get}, List.{enumerate_from}, Option.{option_map_or}}
 use Rattle.std.proofs.lemmas.Option.{none-some, same_Some}
 use Rattle.oc_chains.specs.declared.field.Field.{Field}
@@ -12,7 +12,7 @@ use Rattle.oc_omf.specs.Fixups.{PlacedSubrecord, method_of, last_of, Fixed, fixe
 use Rattle.oc_omf.specs.declared.structures.Datum.TheVariants as datum
 use Rattle.oc_omf.specs.declared.structures.Subrecord.TheVariants as subrecord
 use Rattle.oc_omf_file.specs.{Pieces.{fields_between}, Names.{names_of, filled_from}}
-use Rattle.oc_omf_file.specs.Outputs.{Output, symbol_outputs, piece_outputs, data_outputs, segment_output, outputs_of}
+use Rattle.oc_omf_file.specs.Outputs.{Output, symbol_outputs, data_outputs, segment_output, outputs_of}
 use Rattle.oc_omf_file.specs.{Fixups.{written_reloc, raw_of, target_method, field_fixup}, Canonical.{output_bytes}}
 use Rattle.oc_omf_file.specs.Outputs as output
 use Rattle.oc_omf_file.proofs.{CursorLaws.{placed}, FixupLaws.{frame_by}, MadeLaw.{is_row_of, made_fixup, made_public, made, made_from}}
@@ -64,8 +64,7 @@ pub record IsSubrecord (n : Object) (o : Output) (m : ℕ) (part : Result Subrec
   pub part_is : part ≡ Ok (subrecord.Fixup (made_record n from x))
 
 public_silent : (at : ℕ) (name : List ℕ) (place : Option Place) → (option_map_or (made_public at name) place (says_nothing at)).subrecords ≡ []
-public_silent at name None = refl
-public_silent at name (Some x) = refl
+public_silent at name place = grind arith
 
 pub subrecord_is : (n : Object) (place : ℕ) (o : Output) (m : ℕ) (r : Read Subrecord) → slice_get (made n place o).subrecords m ≡ Some r → IsSubrecord n o m r.part
 subrecord_is n place output.Header m r h = absurd (none-some r h)

@@ -1,5 +1,5 @@
 -- No fixup of the canonical file has a fault.
-use Rattle.std.proofs.Common.{◌≡◌, ℕ, zero, suc, ◌+◌, ◌<◌, ◌≤◌, ◌⊎◌, inl, inr, Bool, true, false, not, ◌&&◌, ◌||◌, nat_le, nat_lt, nat_eq, if◌then◌else◌, List, [], ◌∷◌, ◌++◌, length, take, filter, Some, Result, refl, sym, ◌∙◌, ap, subst, arith, append-nil}
+use Rattle.std.proofs.Common.{◌≡◌, ℕ, zero, suc, ◌+◌, ◌<◌, ◌≤◌, ◌⊎◌, inl, inr, Bool, true, false, not, ◌&&◌, ◌||◌, nat_le, nat_lt, nat_eq, if◌then◌else◌, List, [], ◌∷◌, ◌++◌, take, filter, Some, Result, refl, sym, ◌∙◌, ap, subst, arith, append-nil}
 use Rattle.std.specs.{Prelude.{flat_map, slice_get}, List.{enumerate_from, list_any, AllByRecursion}, Option.{option_map_or, is_some}}
 use Rattle.std.proofs.lemmas.{Bool.{eqb-true}, Bool.Decides.{nat_tests}, Grind.{flat_map-append}, Option.{none-some, same_Some}}
 use Rattle.oc_linking.specs.{FirstFault.{Condition}, Keeping.{all}}
@@ -31,9 +31,7 @@ filter_low test p [] f i x h = absurd (none-some x h)
 filter_low test p (y ∷ xs) f i x h = by (λ j g. filter_low test (end_of y) xs f.2 j x g) (test y) i h
   where
     by : ((j : ℕ) → slice_get (filter test xs) j ≡ Some x → end_of y ≤ x.at) → (b : Bool) (i : ℕ) → slice_get (if b then y ∷ filter test xs else filter test xs) i ≡ Some x → p ≤ x.at
-    by later true zero h = subst (λ (z : Field Reloc). p ≤ z.at) (same_Some y x h) f.0
-    by later true (suc i) h = let l = later i h in let low = f.0 in omega (arith, l, low)
-    by later false i h = let l = later i h in let low = f.0 in omega (arith, l, low)
+    by later b i h = grind arith
 
 filter_rises : (test : Field Reloc → Bool) (p : ℕ) (xs : List (Field Reloc)) → FollowFrom p xs → (a b : ℕ) (x y : Field Reloc) → a < b
     → slice_get (filter test xs) a ≡ Some x → slice_get (filter test xs) b ≡ Some y → x.at < y.at
@@ -146,8 +144,7 @@ module _ (n : Object) (is : IsForOmf n) where
       flat_map-append g before (o ∷ []) ∙ ap (λ ys. flat_map g before ++ ys) (append-nil (g o) ∙ none) ∙ append-nil (flat_map g before)
 
   framed_there : (t : Tables) (home : Bool) → t.groups ≡ flat → is_there t (frame_by home) ≡ true
-  framed_there t true groups = refl
-  framed_there t false groups = ap (λ gs. nat_le 1 1 && nat_le 1 (length gs)) groups
+  framed_there t home groups = grind arith
 
   fixup_clean : (i : ℕ) (e : Entry) → slice_get (entries n is) i ≡ Some e → (j : ℕ) (y : PlacedSubrecord) → slice_get (subrecords_by (entries n is) (i, e)) j ≡ Some y
       → Unbroken (relocation_conditions (meant n) all (subrecords_upto (entries n is) i ++ take j (subrecords_by (entries n is) (i, e))) y)

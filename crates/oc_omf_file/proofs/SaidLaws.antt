@@ -1,7 +1,7 @@
 -- What each entry of an output says.
-use Rattle.std.proofs.Common.{◌≡◌, ℕ, zero, suc, ◌+◌, ◌^◌, ◌<◌, ◌≤◌, Bool, true, false, nat_lt, nat_le, nat_eq, if◌then◌else◌, List, [], ◌∷◌, ◌++◌, length, drop, Some, None, Ok, refl, sym, ◌∙◌, ap, subst, arith, append-nil, append_assoc, length-append}
+use Rattle.std.proofs.Common.{◌≡◌, ℕ, suc, ◌+◌, ◌^◌, ◌<◌, ◌≤◌, Bool, true, false, nat_lt, nat_le, nat_eq, if◌then◌else◌, List, [], ◌∷◌, ◌++◌, length, drop, Some, None, Ok, refl, sym, ◌∙◌, ap, subst, arith, append-nil, append_assoc, length-append}
 use Rattle.std.specs.Prelude.{flat_map, slice_get}
-use Rattle.std.proofs.lemmas.{Bool.Decides.{nat_tests}, Option.{none-some, same_Some}}
+use Rattle.std.proofs.lemmas.Bool.Decides.{nat_tests}
 use Rattle.std.proofs.Math.Seq.{drop-append-add}
 use Rattle.oc_base.specs.Numbers.{number_at, bytes_of_number}
 use Rattle.oc_omf_records.specs.Blocks.{none, content}
@@ -103,8 +103,7 @@ one_read read bytes y reads some =
     (subst (Stands bytes 0) (sym all) (stands_whole bytes)) (omega (arith, ap length all))
   where
     only : (k : ℕ) (x : List ℕ) → slice_get (bytes ∷ []) k ≡ Some x → bytes ≡ x
-    only zero x h = same_Some bytes x h
-    only (suc k) x h = absurd (none-some x h)
+    only k x h = grind arith
 
 pub external_said : (at : ℕ) (name : List ℕ)
     → said_by at EXTDEF (name_bytes name ++ 0 ∷ []) ≡ record (says_nothing at) { externals = record { at = at + 3 + 0; part = Ok (record { local = false; name = name; communal = None }) } ∷ [] }
@@ -203,8 +202,7 @@ last_one read front bytes y reads some =
     (subst (Stands (front ++ bytes) (length front)) (sym all) there) (omega (arith, ap length all, length-append front bytes))
   where
     only : (k : ℕ) (x : List ℕ) → slice_get (bytes ∷ []) k ≡ Some x → bytes ≡ x
-    only zero x h = same_Some bytes x h
-    only (suc k) x h = absurd (none-some x h)
+    only k x h = grind arith
 
 pub public_said : (at segment : ℕ) (name : List ℕ) (offset : ℕ) → segment < 32768 → offset < 2 ^ 32
     → said_by at (wide PUBDEF) ((index_bytes 1 ++ index_bytes segment) ++ symbol_bytes name offset) ≡ record (says_nothing at) {

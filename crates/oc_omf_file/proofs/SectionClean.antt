@@ -3,14 +3,14 @@ use Rattle.std.proofs.Common.{◌≡◌, ℕ, zero, suc, ◌+◌, ◌-◌, ◌*�
 use Rattle.std.specs.{Prelude.{flat_map, slice_get, slice_range}, List.{enumerate_from, list_any, sum_by}, Option.{option_map_or}}
 use Rattle.std.proofs.lemmas.{Bool.{eqb-true}, Bool.Decides.{nat_tests}, List.{length-map, length-take}, List.Sums.{sum_by-cons, sum_by-append}}
 use Rattle.std.proofs.lemmas.Option.{none-some, same_Some, slice_get_within}
-use Rattle.oc_linking.specs.{declared.terms.Kind.{Kind}, declared.terms.Kind.TheVariants.{Code, ReadOnly, Data, Zero, Init, Fini, Debug, Exception, Note}}
+use Rattle.oc_linking.specs.{declared.terms.Kind.{Kind}, declared.terms.Kind.TheVariants.{Data, Zero}}
 use Rattle.oc_neutral.specs.{declared.section.Section.{Section}, Building.{is_zero, size_sum, stored_size, stored_sum}, KeySymbols.{global_place}}
 use Rattle.oc_neutral.specs.{KindRules.{same_kind}, Normal.{Place}, Objects.{Object}}
 use Rattle.oc_shelf.proofs.ReadingLaws.StageLemmas.{Unbroken, IsUnbroken, unbroken_append}
 use Rattle.oc_shelf.proofs.WritingLaws.MemberLemmas.{each_flat_map, member_enumerated, member_first, none_passes, of_filter}
 use Rattle.oc_neutral.proofs.Positions.{there_at}
 use Rattle.oc_omf.specs.{Structures.{Piece}, Entries.{Entry, says_nothing, in_file}, Tables.{Tables, tables_of, is_indexed}}
-use Rattle.oc_omf.specs.Sections.{segment_size, size_at, piece_size, segment_kind}
+use Rattle.oc_omf.specs.Sections.{segment_size, size_at, piece_size}
 use Rattle.oc_omf.specs.SectionFaults.{name_conditions, is_combination, is_named, form_conditions, size_conditions, segment_conditions, group_conditions, pieces_meet, piece_conditions, bytes_size, all_bytes, end_conditions, conditions_on, section_conditions, section_stage}
 use Rattle.oc_omf.specs.Bytes.{name_bytes}
 use Rattle.oc_omf.specs.Sections as read
@@ -33,15 +33,7 @@ names_clean x place at (name ∷ names) = names_clean x place (at + length (name
 -- ... kinds
 
 zero_kind : (k : Kind) → same_kind k Zero ≡ is_zero k
-zero_kind Code = refl
-zero_kind ReadOnly = refl
-zero_kind Data = refl
-zero_kind Zero = refl
-zero_kind Init = refl
-zero_kind Fini = refl
-zero_kind Debug = refl
-zero_kind Exception = refl
-zero_kind Note = refl
+zero_kind k = grind arith
 
 -- the bytes of segments are those of sections
 bytes_from : (n : Object) (t : Tables) (a : ℕ) (ss : List Section) → ((j : ℕ) (s : Section) → slice_get ss j ≡ Some s → bytes_size t (a + j, segment_of n s) ≡ stored_size s)
@@ -85,12 +77,10 @@ piece_of n (output.Fixups j s a b) m y k from h e same = absurd (none-some y h)
 piece_of n output.End m y k from h e same = absurd (none-some y h)
 
 and_false : (a q r : Bool) → (a && false && q && r) ≡ false
-and_false true q r = refl
-and_false false q r = refl
+and_false a q r = grind arith
 
 and_later : (a r : Bool) → (a && true && false && r) ≡ false
-and_later true r = refl
-and_later false r = refl
+and_later a r = grind arith
 
 module _ (n : Object) (is : IsForOmf n) where
   -- a segment
@@ -159,8 +149,7 @@ module _ (n : Object) (is : IsForOmf n) where
       stored k s here = by (is_zero s.kind) (has_bytes n is k s here)
         where
           by : (b : Bool) → length s.bytes ≡ cond b 0 s.size → length s.bytes ≤ s.size
-          by true e = omega (arith, e)
-          by false e = omega (arith, e)
+          by b e = grind arith
 
       OfPiece : Piece → Type 0
       OfPiece y = y.segment ≡ k + 1 → (a : ℕ) × (b : ℕ) × (y.offset ≡ a) × (b ≤ from) × (piece_size y ≤ b - a)

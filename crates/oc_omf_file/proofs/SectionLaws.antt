@@ -9,10 +9,10 @@ use Rattle.oc_neutral.specs.{Omf.Family.{omf_aligns}, Omf.Kinds.{omf_kind, omf_t
 use Rattle.oc_target.specs.OmfMeets.{OmfSection}
 use Rattle.oc_neutral.proofs.Positions.{each_at}
 use Rattle.oc_omf.specs.{Structures.{Piece}, Entries.{entries_in}, Tables.{Tables, tables_of, indexed, name_at}}
-use Rattle.oc_omf.specs.Sections.{align_code, align_of, combination, is_big, is_use32, segment_size, size_at, piece_size, laid_over, contents_of, is_covered, segment_kind, section_of, sections_in}
+use Rattle.oc_omf.specs.Sections.{align_code, align_of, combination, is_use32, segment_size, size_at, piece_size, laid_over, contents_of, is_covered, segment_kind, section_of, sections_in}
 use Rattle.oc_omf.specs.Sections as read
-use Rattle.oc_omf_file.specs.{Names.{class_of}, Pieces.{offsets_of, pieces_of, pieces_upto, fields_between}}
-use Rattle.oc_omf_file.specs.{Outputs.{Output, piece_outputs, data_outputs, outputs_of}, Fixups.{raw_of}, Canonical.{segment_of, omf_file}}
+use Rattle.oc_omf_file.specs.{Names.{class_of}, Pieces.{offsets_of, pieces_of, pieces_upto, fields_between}, Outputs.{piece_outputs, data_outputs, outputs_of}}
+use Rattle.oc_omf_file.specs.{Fixups.{raw_of}, Canonical.{segment_of, omf_file}}
 use Rattle.oc_shelf.proofs.WritingLaws.MemberLemmas.{member_map}
 use Rattle.oc_omf_file.specs.Outputs as output
 use Rattle.oc_omf_file.proofs.{MadeLaw.{entries_made}, GivenLaws.{window_piece, pieces_by, tables_made}, NameLaws.{name_made, section_named, section_classed}}
@@ -30,12 +30,7 @@ pub record IsFramed (n : Object) (s : Section) : Type 0 where
   pub size : segment_size (segment_of n s) ≡ s.size
 
 framed_by : (n : Object) (s : Section) (exponent : ℕ) → slice_get omf_aligns exponent ≡ Some s.align → IsFramed n s
-framed_by n s zero e = let a = sym (same_Some 1 s.align e) in rw a (record { align = refl; some = refl; known = refl; combined = refl; use32 = refl; size = refl })
-framed_by n s (suc zero) e = let a = sym (same_Some 2 s.align e) in rw a (record { align = refl; some = refl; known = refl; combined = refl; use32 = refl; size = refl })
-framed_by n s (suc (suc zero)) e = let a = sym (same_Some 4 s.align e) in rw a (record { align = refl; some = refl; known = refl; combined = refl; use32 = refl; size = refl })
-framed_by n s (suc (suc (suc zero))) e = let a = sym (same_Some 16 s.align e) in rw a (record { align = refl; some = refl; known = refl; combined = refl; use32 = refl; size = refl })
-framed_by n s (suc (suc (suc (suc zero)))) e = let a = sym (same_Some 256 s.align e) in rw a (record { align = refl; some = refl; known = refl; combined = refl; use32 = refl; size = refl })
-framed_by n s (suc (suc (suc (suc (suc k))))) e = absurd (none-some s.align e)
+framed_by n s exponent e = grind arith
 
 -- ... the pieces of a segment
 

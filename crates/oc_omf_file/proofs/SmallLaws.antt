@@ -27,18 +27,14 @@ pub length-index : (k : ℕ) → length (index_bytes k) ≤ 2
 length-index k = by (nat_lt k 128)
   where
     by : (b : Bool) → length (if b then k ∷ [] else (128 + k / 256) ∷ (k % 256) ∷ []) ≤ 2
-    by true = omega arith
-    by false = omega arith
+    by b = grind arith
 
 length-length : (size : ℕ) → length (length_bytes size) ≤ 5
 unfolding length_bytes
 length-length size = by (nat_le size 0x80) (nat_lt size (2 ^ 16)) (nat_lt size (2 ^ 24))
   where
     by : (a b c : Bool) → length (if a then size ∷ [] else if b then 0x81 ∷ bytes_of_number 2 size else if c then 0x84 ∷ bytes_of_number 3 size else 0x88 ∷ bytes_of_number 4 size) ≤ 5
-    by true b c = omega arith
-    by false true c = omega (arith, length-bytes_of_number 2 size)
-    by false false true = omega (arith, length-bytes_of_number 3 size)
-    by false false false = omega (arith, length-bytes_of_number 4 size)
+    by a b c = grind (arith, length-bytes_of_number)
 
 pub length-raw : (n : Object) (k : ℕ) (s : Section) → length (raw_of n k s) ≡ length s.bytes
 unfolding raw_of
@@ -79,8 +75,7 @@ module _ (n : Object) (is : IsForOmf n) where
       omega (arith, ap length e, by (is_row ByTarget row) m.index)
     where
       by : (b : Bool) (i : ℕ) → length (frame_bytes (if b then record { number = 5; index = 0 } else record { number = 1; index = 1 }) ++ index_bytes i) ≤ 4
-      by true i = omega (arith, length-index i)
-      by false i = omega (arith, length-index i)
+      by b i = grind arith
 
   length-fixups : (k from : ℕ) (xs : List (Field Reloc)) → ((j : ℕ) (x : Field Reloc) → slice_get xs j ≡ Some x → reloc_at n k x.at ≡ Some x.item)
       → length (flat_map (field_fixup n from) xs) ≤ 7 * length xs
@@ -164,8 +159,7 @@ module _ (n : Object) (is : IsForOmf n) where
       has_bytes k s here = by (is_zero s.kind) (each_at HasItsBytes n.sections k s is.object.built.bytes here) (size_low n is k s here)
         where
           by : (b : Bool) → length s.bytes ≡ (if b then 0 else s.size) → s.size ≤ 2147483647 → length s.bytes ≤ 2147483647
-          by true e low = omega (arith, e)
-          by false e low = omega (arith, e, low)
+          by b e low = grind arith
 
   small_fixups : (front : List Output) (k : ℕ) (s : Section) (from to : ℕ) → IsDataAt n front k s from to → IsSmall n (output.Fixups k s from to)
   unfolding output_contents

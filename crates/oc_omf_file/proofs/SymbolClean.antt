@@ -1,14 +1,14 @@
 -- No entry of the canonical file has a fault in its symbols.
-use Rattle.std.proofs.Common.{◌≡◌, ℕ, zero, suc, ◌+◌, ◌^◌, Bool, true, false, not, ◌&&◌, ◌||◌, nat_le, nat_lt, nat_eq, if◌then◌else◌, bytes_eq, List, [], ◌∷◌, ◌++◌, length, take, get_or, Option, Some, None, refl, sym, ◌∙◌, ap, subst, arith, append-nil}
+use Rattle.std.proofs.Common.{◌≡◌, ℕ, zero, suc, ◌+◌, ◌^◌, Bool, false, not, ◌&&◌, ◌||◌, nat_le, nat_lt, nat_eq, if◌then◌else◌, bytes_eq, List, [], ◌∷◌, ◌++◌, length, take, get_or, Option, Some, refl, sym, ◌∙◌, ap, subst, arith, append-nil}
 use Rattle.std.specs.{Prelude.{flat_map, slice_get, ◌≢◌}, List.{enumerate_from, list_any, AllByRecursion}, Option.{option_map_or}}
-use Rattle.std.proofs.lemmas.{Bool.{ne_eqb}, Bool.Decides.{nat_tests}, List.{length-map}, Option.{none-some, same_Some, slice_get_within}}
+use Rattle.std.proofs.lemmas.{Bool.{ne_eqb}, Bool.Decides.{nat_tests}, List.{length-map}, Option.{none-some, slice_get_within}}
 use Rattle.oc_linking.specs.{declared.terms.Value.{Value}, declared.terms.Binding.TheVariants.{Global}, FirstFault.{Condition}}
 use Rattle.oc_linking.specs.declared.terms.Value.TheVariants as value
 use Rattle.oc_neutral.specs.{declared.symbol.Symbol.{Symbol}, Invariants.{IsBinding}, KeySymbols.{global_place}, Normal.{Place}, Objects.{Object}}
 use Rattle.oc_shelf.proofs.ReadingLaws.StageLemmas.{Unbroken, IsUnbroken}
 use Rattle.oc_shelf.proofs.WritingLaws.MemberLemmas.{each_flat_map, member_first, none_passes, of_map, of_enumerated, all_members}
-use Rattle.oc_omf.specs.{declared.structures.Communal.{Communal}, Structures.{Public, External, communal_width}, Entries.{Entry, says_nothing}}
-use Rattle.oc_omf.specs.{Tables.{tables_of}, Symbols.{Mention, same_symbol, public_mention, external_mention}, Sections.{size_at}}
+use Rattle.oc_omf.specs.{declared.structures.Communal.{Communal}, Structures.{Public, External}, Entries.{Entry, says_nothing}, Tables.{tables_of}}
+use Rattle.oc_omf.specs.{Symbols.{Mention, same_symbol, public_mention, external_mention}, Sections.{size_at}}
 use Rattle.oc_omf.specs.SymbolFaults.{EntryContext, is_empty, base_conditions, same_public, public_conditions, is_no_form, is_other_length, communal_conditions, external_conditions, symbol_table, symbol_stage, entry_context, symbol_stages}
 use Rattle.oc_omf_file.specs.{Outputs.{Output, symbol_outputs, outputs_of}, Canonical.{segment_of, size_by}}
 use Rattle.oc_omf_file.specs.Outputs as output
@@ -37,26 +37,13 @@ public_from (output.Communal k s) m p h = absurd (none-some p h)
 public_from (output.Public k s) m p h = by (global_place s.binding) m h
   where
     by : (place : Option Place) (m : ℕ) → slice_get (option_map_or (publics_at s.name) place []) m ≡ Some p → public_mention p ≡ mention_of s.name
-    by None m h = absurd (none-some p h)
-    by (Some place) zero h = ap public_mention (sym (same_Some _ p h))
-    by (Some place) (suc m) h = absurd (none-some p h)
+    by place m h = grind arith
 public_from (output.Data k s from to) m p h = absurd (none-some p h)
 public_from (output.Fixups k s from to) m p h = absurd (none-some p h)
 public_from output.End m p h = absurd (none-some p h)
 
 external_from : (q : Output) (m : ℕ) (y : External) → slice_get (externals_by q) m ≡ Some y → external_mention y ≡ mentioned q
-external_from output.Header m y h = absurd (none-some y h)
-external_from (output.Names names) m y h = absurd (none-some y h)
-external_from (output.Segment k s) m y h = absurd (none-some y h)
-external_from output.Group m y h = absurd (none-some y h)
-external_from (output.External k s) zero y h = ap external_mention (sym (same_Some _ y h))
-external_from (output.External k s) (suc m) y h = absurd (none-some y h)
-external_from (output.Communal k s) zero y h = ap external_mention (sym (same_Some _ y h))
-external_from (output.Communal k s) (suc m) y h = absurd (none-some y h)
-external_from (output.Public k s) m y h = absurd (none-some y h)
-external_from (output.Data k s from to) m y h = absurd (none-some y h)
-external_from (output.Fixups k s from to) m y h = absurd (none-some y h)
-external_from output.End m y h = absurd (none-some y h)
+external_from q m y h = grind arith
 
 -- ... communals
 
@@ -65,10 +52,7 @@ formed : (size : ℕ) → is_no_form (communal_form size) ≡ false
 formed size = by (nat_le size 0x80) refl (nat_lt size (2 ^ 16)) (nat_lt size (2 ^ 24))
   where
     by : (a : Bool) → nat_le size 0x80 ≡ a → (b c : Bool) → is_no_form (if a then size else if b then 0x81 else if c then 0x84 else 0x88) ≡ false
-    by true e b c = let low : nat_lt 0x80 size ≡ false = grind (arith, nat_tests) in ap (λ t. t && nat_eq (communal_width size) 0) low
-    by false e true c = refl
-    by false e false true = refl
-    by false e false false = refl
+    by a e b c = grind arith
 
 module _ (n : Object) (is : IsForOmf n) where
   -- a symbol's name

@@ -111,16 +111,7 @@ module _ (n : Object) (is : IsForOmf n) where
       at i k s h (Some place) e (suc m) p g = absurd (none-some p g)
 
       by : (i : ℕ) (o : Output) → slice_get outs i ≡ Some o → (m : ℕ) (p : Public) → slice_get (publics_by o) m ≡ Some p → IsPublic p
-      by i output.Header h m p g = absurd (none-some p g)
-      by i (output.Names names) h m p g = absurd (none-some p g)
-      by i (output.Segment k s) h m p g = absurd (none-some p g)
-      by i output.Group h m p g = absurd (none-some p g)
-      by i (output.External k s) h m p g = absurd (none-some p g)
-      by i (output.Communal k s) h m p g = absurd (none-some p g)
-      by i (output.Public k s) h m p g = at i k s h (global_place s.binding) refl m p g
-      by i (output.Data k s from to) h m p g = absurd (none-some p g)
-      by i (output.Fixups k s from to) h m p g = absurd (none-some p g)
-      by i output.End h m p g = absurd (none-some p g)
+      by i o h m p g = grind arith
 
   -- one that has the name of an output is that output's
   public_same : (i : ℕ) (o : Output) → slice_get outs i ≡ Some o → (p : Public) (f : IsPublic p) → same_symbol (mentioned o) (public_mention p) ≡ true → o ≡ output.Public f.k f.s
@@ -236,8 +227,7 @@ module _ (n : Object) (is : IsForOmf n) where
       same_head z y (sym f.only ∙ ap externals_by same)))
     where
       first : (a b : Bool) → (a && b) ≡ true → a ≡ true
-      first true b e = refl
-      first false b e = absurd (true≢false (sym e))
+      first a b e = grind arith
 
       same_head : (a b : External) → a ∷ [] ≡ b ∷ [] → a ≡ b
       same_head a b e = same_Some a b (ap (λ xs. slice_get xs 0) e)

@@ -27,11 +27,7 @@ meant n = record { tables = made_tables n; mentions = map mentioned (symbol_outp
 
 -- an external is no Local
 pub is_outer : (b : Binding) → is_external b ≡ true → is_local b ≡ false
-is_outer (Local v) e = sym e
-is_outer (Global v) e = refl
-is_outer Undefined e = refl
-is_outer (Common size align) e = refl
-is_outer (Weak f) e = refl
+is_outer b e = grind arith
 
 -- where each gives one thing, the thing of a position is that of its output
 one_each : {X Y : Type 0} (f : X → List Y) (xs : List X) (rest : List Y) → ((j : ℕ) (x : X) → slice_get xs j ≡ Some x → (y : Y) × (f x ≡ y ∷ []))

@@ -39,8 +39,7 @@ against_of m segment f frame None fix e = absurd (none-some fix e)
 against_of m segment f frame (Some method) fix e = by_target (target_of m method) e
   where
     made : (t : Target) (n : rules.Named) (o : Option FixupFrame) → option_map (λ (framed : FixupFrame). record { framed = framed; target = t; displacement = f.displacement }) o ≡ Some fix → t ≡ fix.target
-    made t n None e = absurd (none-some fix e)
-    made t n (Some framed) e = ap (λ (x : Fix). x.target) (same_Some (record { framed = framed; target = t; displacement = f.displacement }) fix e)
+    made t n o e = grind arith
 
     by_against : (u : file_targets.Target) (o : Option Target) → against m method ≡ o
         → option_and_then (λ (aim : Target × rules.Named). option_map (λ (framed : FixupFrame). record { framed = framed; target = aim.0; displacement = f.displacement }) (framed_of m segment f frame aim.1)) (option_map (λ (t : Target). (t, u.named)) o) ≡ Some fix
@@ -192,16 +191,10 @@ module _ (file : List ℕ) (bytes : AreBytes file) (keep : Keep) (sections : sta
       not_zero k none covered = by (is_zero k) refl
         where
           by : (b : Bool) → is_zero k ≡ b → b ≡ false
-          by false e = refl
-          by true e = absurd (true≢false (sym covered ∙ none e))
+          by b e = grind arith
 
   less_there : (l : Less) → ((k : ℕ) → l ≡ less.Section k → ⊥) → IsLessThere base.object l
-  less_there less.Zero none = tt
-  less_there less.Place none = tt
-  less_there less.GotBase none = tt
-  less_there less.ImageBase none = tt
-  less_there less.Home none = tt
-  less_there (less.Section k) none = absurd (none k refl)
+  less_there l none = grind arith
 
   -- a relocation can be added before any other
   can_base : (s at : ℕ) (r : Reloc) → Standing s at r → CanAdd base.object s at r

@@ -72,13 +72,10 @@ named_seen : (number : ℕ) (s : ModuleSymbol) → named_by number (binding_seen
 named_seen number s = by s.place s.length
   where
     placed : (local : Bool) (place : ℕ × ℕ) → named_by number (place_binding local place) ≡ Some (cond local (rules.Sectional (place.0 - 1)) (rules.Symbolic number))
-    placed true place = refl
-    placed false place = refl
+    placed local place = grind arith
 
     by : (p : Option (ℕ × ℕ)) (n : Option ℕ) → named_by number (binding_seen (record { local = s.local; name = s.name; place = p; length = n })) ≡ Some (symbol_named (record { local = s.local; name = s.name; place = p; length = n }) number)
-    by (Some place) n = placed s.local place
-    by None (Some size) = refl
-    by None None = refl
+    by p n = grind arith
 
 module _ (es : List Entry) where
   abbrev ms : List Mention
@@ -219,8 +216,7 @@ module _ (es : List Entry) where
       ap (λ (o : Option Group). nat_eq frame.number 1 && option_map_or (λ (g : Group). bytes_eq (name_at (tables_of es) g.name) (codes "FLAT")) o false) none ∙ and_false (nat_eq frame.number 1)
     where
       and_false : (a : Bool) → (a && false) ≡ false
-      and_false true = refl
-      and_false false = refl
+      and_false a = grind arith
 
   pub flat_by : (frame : Method) (g : Group) → nat_eq frame.number 1 ≡ true → indexed (tables_of es).groups frame.index ≡ Some g
       → is_flat (meaning_of es) frame ≡ bytes_eq (name_at (tables_of es) g.name) (codes "FLAT")

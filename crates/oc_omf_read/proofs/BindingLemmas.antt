@@ -1,7 +1,7 @@
 -- The symbols of a module are what is seen of its mentions.
-use Rattle.std.proofs.Common.{◌≡◌, ℕ, Bool, true, false, cond, List, [], ◌∷◌, ◌++◌, map, Option, None, Some, refl, sym, ◌∙◌, ap}
+use Rattle.std.proofs.Common.{◌≡◌, ℕ, Bool, true, false, cond, List, [], ◌∷◌, ◌++◌, map, Option, None, Some, refl, sym, ◌∙◌, ap, arith}
 use Rattle.std.specs.{Prelude.{◌&&◌, find, flat_map, fold}, Option.{is_some, option_and_then, option_map, option_map_or}}
-use Rattle.std.proofs.lemmas.{Bool.{true≢false}, List.{map-append}, Option.{none-some, same_Some}}
+use Rattle.std.proofs.lemmas.{Bool.{true≢false}, List.{map-append}, Option.{none-some}}
 use Rattle.oc_linking.specs.{declared.terms.Binding.TheVariants.{Undefined, Common}, Numbers.{or_else}}
 use Rattle.oc_neutral.specs.Powers.{natural_align}
 use Rattle.oc_omf.specs.{declared.structures.Communal.{Communal}, Structures.{External, Public}, Entries.{Entry, all_read}}
@@ -11,7 +11,6 @@ use Rattle.oc_omf_read.specs.declared.declarations.DeclarationKind.TheVariants a
 use Rattle.oc_omf_read.specs.Bindings.{binding_seen, place_binding}
 use Rattle.oc_omf_read.specs.Declarations.{Declaration, of_communal, of_external, of_public, declarations_by, declarations_in}
 use Rattle.oc_omf_read.specs.Mentioned.{length_by, length_in, length_said, mention_of, mentioned_symbols, place_by, place_in, place_said, seen_in}
-use Rattle.oc_omf_judge.proofs.MentionLemmas.{same_is}
 use Rattle.oc_shelf.proofs.ReadingLaws.StageLemmas.{or_else-assoc}
 
 -- ... mentions
@@ -54,8 +53,7 @@ find_append p [] ys = refl
 find_append {X} p (x ∷ xs) ys = by (p x) (find_append p xs ys)
   where
     by : (b : Bool) → find p (xs ++ ys) ≡ or_else (find p xs) (find p ys) → cond b (Some x) (find p (xs ++ ys)) ≡ or_else (cond b (Some x) (find p xs)) (find p ys)
-    by true e = refl
-    by false e = e
+    by b e = grind arith
 
 abbrev place_of : Public → ℕ × ℕ
 place_of p = (p.segment, p.offset)
@@ -64,8 +62,7 @@ abbrev is_public : Mention → Public → Bool
 is_public x p = same_symbol x (public_mention p)
 
 map_or_else : {X Y : Type 0} (f : X → Y) (a b : Option X) → option_map f (or_else a b) ≡ or_else (option_map f a) (option_map f b)
-map_or_else f None b = refl
-map_or_else f (Some x) b = refl
+map_or_else f a b = grind arith
 
 place_publics : (x : Mention) (ps : List Public) → place_in x (map of_public ps) ≡ option_map place_of (find (is_public x) ps)
 place_publics x [] = refl
@@ -81,9 +78,7 @@ place_externals x [] = refl
 place_externals x (y ∷ ys) = by (same_symbol x (external_mention y)) y.communal ∙ place_externals x ys
   where
     by : (b : Bool) (c : Option Communal) → or_else (cond b (place_said (option_map_or of_communal c what.External)) None) (place_in x (map of_external ys)) ≡ place_in x (map of_external ys)
-    by false c = refl
-    by true None = refl
-    by true (Some c) = refl
+    by b c = grind arith
 
 place_is : (x : Mention) (e : Entry) → place_in x (declarations_by e) ≡ option_map place_of (find (is_public x) (all_read e.publics))
 place_is x e =
@@ -91,8 +86,7 @@ place_is x e =
     ∙ ap (or_else (place_in x (map of_public (all_read e.publics)))) (place_externals x (all_read e.externals)) ∙ last (place_in x (map of_public (all_read e.publics))) ∙ place_publics x (all_read e.publics)
   where
     last : {X : Type 0} (a : Option X) → or_else a None ≡ a
-    last None = refl
-    last (Some x) = refl
+    last a = grind arith
 
 place_all : (x : Mention) (es : List Entry) → place_in x (flat_map declarations_by es) ≡ option_map place_of (find (is_public x) (flat_map (λ (e : Entry). all_read e.publics) es))
 place_all x [] = refl
@@ -119,8 +113,7 @@ length_publics x [] = refl
 length_publics x (p ∷ ps) = by (is_public x p) ∙ length_publics x ps
   where
     by : (b : Bool) → or_else (cond b None None) (length_in x (map of_public ps)) ≡ length_in x (map of_public ps)
-    by true = refl
-    by false = refl
+    by b = grind arith
 
 length_externals : (x : Mention) (ys : List External) → length_in x (map of_external ys) ≡ option_and_then size_of (find (is_communal x) ys)
 length_externals x [] = refl
@@ -138,18 +131,14 @@ and_then_or_else f None b some = refl
 and_then_or_else {X} {Y} f (Some x) b some = by (f x) (some x refl)
   where
     by : (o : Option Y) → is_some o ≡ true → o ≡ or_else o (option_and_then f b)
-    by None e = absurd (true≢false (sym e))
-    by (Some y) e = refl
+    by o e = grind arith
 
 found_some : (x : Mention) (ys : List External) (y : External) → find (is_communal x) ys ≡ Some y → is_some (size_of y) ≡ true
 found_some x [] y e = absurd (none-some y e)
 found_some x (z ∷ zs) y e = by (same_symbol x (external_mention z)) z.communal refl e (found_some x zs y)
   where
     by : (b : Bool) (c : Option Communal) → z.communal ≡ c → cond (b && is_some c) (Some z) (find (is_communal x) zs) ≡ Some y → (find (is_communal x) zs ≡ Some y → is_some (size_of y) ≡ true) → is_some (size_of y) ≡ true
-    by true (Some c) is e rest = ap (λ (w : External). is_some (size_of w)) (sym (same_Some z y e)) ∙ ap (λ (o : Option Communal). is_some (option_map (λ (c : Communal). c.length) o)) is
-    by true None is e rest = rest e
-    by false None is e rest = rest e
-    by false (Some c) is e rest = rest e
+    by b c is e rest = grind arith
 
 length_is : (x : Mention) (e : Entry) → length_in x (declarations_by e) ≡ option_and_then size_of (find (is_communal x) (all_read e.externals))
 length_is x e =
@@ -175,8 +164,7 @@ found_public x [] p e = absurd (none-some p e)
 found_public x (q ∷ qs) p e = by (is_public x q) refl e (found_public x qs p)
   where
     by : (b : Bool) → is_public x q ≡ b → cond b (Some q) (find (is_public x) qs) ≡ Some p → (find (is_public x) qs ≡ Some p → p.local ≡ x.local) → p.local ≡ x.local
-    by true f e rest = ap (λ (w : Public). w.local) (sym (same_Some q p e)) ∙ sym (ap (λ (m : Mention). m.local) (same_is x (public_mention q) f))
-    by false f e rest = rest e
+    by b f e rest = grind arith
 
 pub binding_is : (es : List Entry) (x : Mention) → binding_of (tables_of es) x ≡ binding_seen (seen_in (declarations_in es) x)
 unfolding binding_of

@@ -5,8 +5,7 @@ use Rattle.std.proofs.lemmas.{List.{length-map, length-take-le, map-append}, Lis
 use Rattle.std.proofs.lemmas.Option.{get_or_from_slice_get, slice_get-map, slice_get_within}
 use Rattle.std.proofs.Math.Seq.{take-length}
 use Rattle.oc_base.specs.declared.format.Format.TheVariants.{Omf}
-use Rattle.oc_linking.specs.{declared.terms.Kind.{Kind}, declared.terms.Kind.TheVariants.{Code, ReadOnly, Data, Zero, Init, Fini, Debug, Exception, Note}}
-use Rattle.oc_linking.specs.FirstFault.{stage_fault}
+use Rattle.oc_linking.specs.{declared.terms.Kind.{Kind}, declared.terms.Kind.TheVariants.{Zero}, FirstFault.{stage_fault}}
 use Rattle.oc_linking.specs.Parts as parts
 use Rattle.oc_neutral.specs.{KindRules.{same_kind}, declared.section.Section.{Section}}
 use Rattle.oc_neutral.specs.{Building.{is_zero, limit_passed, section_added, size_sum, stored_size, stored_sum}, Invariants.{HasItsBytes}}
@@ -60,15 +59,7 @@ sum_same f g [] same = refl
 sum_same f g (x ∷ xs) same = sum_by-cons f x xs ∙ ap (λ (n : ℕ). n + sum_by f xs) (same x) ∙ ap (λ (n : ℕ). g x + n) (sum_same f g xs same) ∙ sym (sum_by-cons g x xs)
 
 zero_same : (k : Kind) → same_kind k Zero ≡ is_zero k
-zero_same Zero = refl
-zero_same Code = refl
-zero_same ReadOnly = refl
-zero_same Data = refl
-zero_same Init = refl
-zero_same Fini = refl
-zero_same Debug = refl
-zero_same Exception = refl
-zero_same Note = refl
+zero_same k = grind arith
 
 abbrev pub stored_all : all.Tables → List Section
 stored_all t = map (stored_section []) (sections_in t)

@@ -1,9 +1,9 @@
 -- What an entry says, by what it speaks of.
-use Rattle.std.proofs.Common.{◌≡◌, ℕ, ◌⊎◌, inl, inr, Bool, true, false, cond, List, [], ◌∷◌, Some, None, Ok, Err, refl, ap}
-use Rattle.std.specs.{Prelude.{◌||◌, ◌+◌, nat_eq, Result}, Option.{unwrap_or}}
+use Rattle.std.proofs.Common.{◌≡◌, ℕ, ◌⊎◌, inl, inr, Bool, true, false, cond, List, [], ◌∷◌, Some, None, Ok, Err, refl, ap, arith}
+use Rattle.std.specs.{Prelude.{◌||◌, ◌+◌, nat_eq}, Option.{unwrap_or}}
 use Rattle.std.proofs.lemmas.Bool.{eqb-true}
 use Rattle.oc_omf.specs.declared.constants.TheConstants.{EXTDEF, PUBDEF, LNAMES, SEGDEF, GRPDEF, FIXUPP, LEDATA, LIDATA, COMDEF, LEXTDEF, LPUBDEF, MODEND}
-use Rattle.oc_omf.specs.{declared.cut.Cut.{Cut}, declared.structures.PublicBase.{PublicBase}, Cursor.{Reading, Read, each_read, name_read}}
+use Rattle.oc_omf.specs.{declared.structures.PublicBase.{PublicBase}, Cursor.{Reading, Read, each_read, name_read}}
 use Rattle.oc_omf.specs.Structures.{Public, segment_read, group_read, base_read, public_read, external_read, communal_read, piece_read, subrecord_read}
 use Rattle.oc_omf.specs.Entries.{Entry, all_read, even_of, is_kind, is_wide, says_nothing, in_file, whole, publics_of, said_by}
 use Rattle.oc_omf_read.specs.{declared.class.EntryClass.{EntryClass}, Classes.{class_of}, Defined.{read_in}}
@@ -30,8 +30,7 @@ said_as place wide ends b class.Fixups = record (says_nothing place) { subrecord
 said_as place wide ends b class.Nothing = record (says_nothing place) { ends = ends }
 
 publics_same : (kind place : ℕ) (b : List ℕ) (local : Bool) (r : Reading PublicBase) → is_kind LPUBDEF kind ≡ local → publics_of kind place b r ≡ publics_by (is_wide kind) local place b r
-publics_same kind place b local (Ok r) is = ap (λ (l : Bool). in_file place (each_read (public_read (is_wide kind) l r.0.segment) b r.1)) is
-publics_same kind place b local (Err c) is = refl
+publics_same kind place b local r is = grind arith
 
 -- the types of two records differ
 publics_apart : (kind : ℕ) → is_kind PUBDEF kind ≡ true → is_kind LPUBDEF kind ≡ false
@@ -99,13 +98,8 @@ module _ (place kind : ℕ) (b : List ℕ) where
 
 -- ... what is read of it
 
-read_one : {X : Type 0} (place at : ℕ) (r : Result X Cut) (xs ys : List (Read X)) → all_read xs ≡ all_read ys → all_read (record { at = place; part = r } ∷ xs) ≡ all_read (record { at = at; part = r } ∷ ys)
-read_one {X} place at (Ok x) xs ys same = ap (λ (zs : List X). x ∷ zs) same
-read_one place at (Err c) xs ys same = same
-
 pub read_whole : {X : Type 0} (place : ℕ) (r : Reading X) → all_read (whole place r) ≡ read_in r
-read_whole place (Ok r) = refl
-read_whole place (Err c) = refl
+read_whole place r = grind arith
 
 -- ... classes that define nothing of some sort
 

@@ -120,8 +120,7 @@ module _ (m : Meaning) (keep : Keep) where
   threaded_more earlier x threaded grows clean number method is = by x.part clean (sym (thread_more earlier x false number) ∙ is)
     where
       of : (t : Thread) (b : Bool) → is_there x.before t.method ≡ true → or_else (cond b (Some t.method) None) (thread_after earlier false number) ≡ Some method → is_there m.tables method ≡ true
-      of t true there e = subst (λ (y : Method). is_there m.tables y ≡ true) (same_Some t.method method e) (grows t.method there)
-      of t false there e = threaded number method e
+      of t b there e = grind arith
 
       by : (r : Result Subrecord Cut) → first_broken (relocation_conditions m keep earlier (record { index = x.index; at = x.at; part = r; before = x.before })) ≡ None
           → or_else (thread_by false number r) (thread_after earlier false number) ≡ Some method → is_there m.tables method ≡ true
@@ -135,8 +134,7 @@ module _ (m : Meaning) (keep : Keep) where
   known_by earlier x f threaded grows = by f.target
     where
       by : (d : Datum) → IsKnown d x.before (method_of earlier false d)
-      by (datum.Explicit method) there other e = subst (λ (y : Method). is_there m.tables y ≡ true) (same_Some method other e) (grows method there)
-      by (datum.Thread number) there other e = threaded number other e
+      by d there other e = grind arith
 
   good_from : (earlier xs : List PlacedSubrecord) → AllByRecursion Grows xs → Threaded earlier → AreClean earlier xs → AreGood (fixed_in earlier) (fixed_from earlier xs)
   unfolding relocation_conditions fixed_in

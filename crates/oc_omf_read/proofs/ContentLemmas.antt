@@ -31,13 +31,10 @@ laid_none offset row = by (nat_eq (size_of row) 0) (nat_lt 0 (offset + size_of r
     past a b e = grind (arith, nat_tests)
 
     or_true : (a : Bool) → (a || true) ≡ true
-    or_true true = refl
-    or_true false = refl
+    or_true a = grind arith
 
     by : (a b : Bool) → nat_eq (size_of row) 0 ≡ a → nat_lt 0 (offset + size_of row) ≡ b → cond (a || (nat_le (2 ^ 31) (size_of row) || b)) [] (take offset [] ++ (denotation row ++ drop (offset + size_of row) [])) ≡ []
-    by true b e f = refl
-    by false true e f = ap (λ c. cond c [] (take offset [] ++ (denotation row ++ drop (offset + size_of row) []))) (or_true (nat_le (2 ^ 31) (size_of row)))
-    by false false e f = absurd (true≢false (sym (past (size_of row) offset e) ∙ f))
+    by a b e f = grind arith
 
 -- where it fits, it is laid over them
 laid_fits : (d : Piece) (bytes : List ℕ) → d.offset + piece_size d ≤ length bytes → piece_size d < 2 ^ 31 → laid_by d.offset (blocks_in d.blocks) bytes ≡ laid_over bytes d
@@ -103,8 +100,7 @@ laid_over_none k [] = refl
 laid_over_none k (d ∷ ds) = ap (laid_all ds k) (by (nat_eq d.segment (k + 1))) ∙ laid_over_none k ds
   where
     by : (b : Bool) → cond b (laid_by d.offset (blocks_in d.blocks) []) [] ≡ []
-    by true = laid_none d.offset (blocks_in d.blocks)
-    by false = refl
+    by b = grind arith
 
 -- ... tables that grow
 
@@ -245,8 +241,7 @@ stored_none u known knows vectors long each = record {
     low k s there = let inside = slice_get_within u.segments k s there in let many = ap length knows.segments_are in omega (arith, inside, many)
 
     by : (z : Bool) (n : ℕ) → replicate {A = ℕ} (cond z 0 n) 0 ≡ cond z [] (replicate n 0)
-    by true n = refl
-    by false n = refl
+    by z n = grind arith
 
 -- ... as it is computed
 

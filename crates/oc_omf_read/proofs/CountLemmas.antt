@@ -1,7 +1,7 @@
 -- A module has fewer mentions of symbols than bytes.
 use Rattle.std.proofs.Common.{◌≡◌, ℕ, zero, suc, ◌+◌, ◌-◌, ◌≤◌, Bool, true, false, cond, List, [], ◌∷◌, length, map, drop, min, None, Some, Ok, Err, refl, ◌∙◌, ap, arith, length-append, length-take, length-drop}
 use Rattle.std.specs.{Prelude.{flat_map, nat_lt, Result}, Option.{option_map_or}}
-use Rattle.std.proofs.lemmas.{List.{length-map}, Option.{none-some, same_Some}}
+use Rattle.std.proofs.lemmas.List.{length-map}
 use Rattle.oc_omf_records.specs.{declared.records.Entry.{Entry as Record}, NextEntry.{end_of_entry, entry_of}}
 use Rattle.oc_omf.specs.{declared.cut.Cut.{Cut}, declared.structures.PublicBase.{PublicBase}, Cursor.{Reading, Read, and_more, each_read, each_upto}}
 use Rattle.oc_omf.specs.Structures.{External, base_read, communal_read, external_read, public_read}
@@ -20,17 +20,14 @@ read_few [] = omega arith
 read_few {X} (s ∷ ss) = by s.part (read_few ss)
   where
     by : (r : Result X Cut) → length (all_read ss) ≤ length ss → length (all_read (record { at = s.at; part = r } ∷ ss)) ≤ suc (length ss)
-    by (Ok x) low = omega (arith, low)
-    by (Err c) low = omega (arith, low)
+    by r low = grind arith
 
 upto_few : {X : Type 0} (n : ℕ) (read : List ℕ → ℕ → Reading X) (b : List ℕ) (at : ℕ) → length (each_upto n read b at) ≤ n
 upto_few zero read b at = omega arith
 upto_few {X} (suc n) read b at = by (nat_lt at (length b)) (read b at) (λ p. upto_few n read b p)
   where
     by : (c : Bool) (r : Reading X) → ((p : ℕ) → length (each_upto n read b p) ≤ n) → length (cond c (and_more at r (each_upto n read b)) []) ≤ suc n
-    by false r low = omega arith
-    by true (Ok r) low = let few = low r.1 in omega (arith, few)
-    by true (Err c) low = omega arith
+    by c r low = grind arith
 
 each_few : {X : Type 0} (read : List ℕ → ℕ → Reading X) (b : List ℕ) (at : ℕ) → length (all_read (each_read read b at)) ≤ length b
 unfolding each_read
@@ -69,8 +66,7 @@ next_is : (file : List ℕ) (at q : ℕ) → next_place file at ≡ Some q → e
 next_is file at q e = by (is_last file at) e
   where
     by : (b : Bool) → cond b None (Some (end_of_entry file at)) ≡ Some q → end_of_entry file at ≡ q
-    by true e = absurd (none-some q e)
-    by false e = same_Some (end_of_entry file at) q e
+    by b e = grind arith
 
 places_few : (n : ℕ) (file : List ℕ) (at : ℕ) → at ≤ length file → length (flat_map declarations_by (map (said_at file) (places_upto n file at))) + at ≤ length file
 places_few zero file at low = omega (arith, low)

@@ -1,5 +1,5 @@
 -- What a fixup does is what its relocation is made of.
-use Rattle.std.proofs.Common.{◌≡◌, ℕ, ◌+◌, ◌-◌, Bool, true, false, cond, Option, None, Some, refl, ◌∙◌, ap}
+use Rattle.std.proofs.Common.{◌≡◌, ℕ, ◌+◌, ◌-◌, Bool, true, false, cond, Option, None, Some, refl, ◌∙◌, ap, arith}
 use Rattle.std.specs.{Prelude.{◌||◌, nat_eq, ℤ}, Option.{option_and_then, option_map, option_map_or}}
 use Rattle.oc_base.specs.{declared.format.Word.TheVariants.{W32}, Numbers.{number_at}}
 use Rattle.oc_linking.specs.Parts as parts
@@ -73,9 +73,7 @@ module _ (m : Meaning) where
       by true (Some frame) = framed_is frame (is_flat m frame) (is_home m x.piece frame u) (is_home_of m d.segment frame u.named) (home frame)
 
   added_same : (s at : ℕ) (x : Fixed) (f : FixupFrame) (t : Target) → added_at m s at x (fixup_row (framed_as f)) ≡ added_by (record { framed = f; target = t; displacement = x.fixup.displacement }) (field_number s at)
-  added_same s at x framed.Flat t = refl
-  added_same s at x framed.Home t = refl
-  added_same s at x framed.Own t = refl
+  added_same s at x f t = grind arith
 
   -- the relocation of a fixup is that of what it does
   pub reloc_is : (s at : ℕ) (x : Fixed) (d : Piece) → x.piece ≡ Some d → reloc_by m s at x ≡ option_map (reloc_as s at) (fix_by m d.segment x.fixup x.frame x.target)
@@ -88,12 +86,10 @@ module _ (m : Meaning) where
       made t (Some f) = ap (λ (a : ℤ). Some (row_reloc W32 (fixup_row (framed_as f)) s a t)) (added_same s at x f t)
 
       plain : (t : Target) (o : Option Row) → option_and_then (λ (row : Row). option_map (row_reloc W32 row s (added_at m s at x row)) (Some t)) o ≡ option_map (λ (row : Row). row_reloc W32 row s (added_at m s at x row) t) o
-      plain t None = refl
-      plain t (Some row) = refl
+      plain t o = grind arith
 
       no_row : (o : Option Row) → option_and_then (λ (row : Row). option_map (row_reloc W32 row s (added_at m s at x row)) None) o ≡ None
-      no_row None = refl
-      no_row (Some row) = refl
+      no_row o = grind arith
 
       by_object : (u : file.Target) (o : Option Target) → option_and_then (λ (row : Row). option_map (row_reloc W32 row s (added_at m s at x row)) o) (row_of m x u)
           ≡ option_map (reloc_as s at) (option_and_then (λ (aim : Target × rules.Named). option_map (λ (f : FixupFrame). record { framed = f; target = aim.0; displacement = x.fixup.displacement }) (framed_of m d.segment x.fixup x.frame aim.1)) (option_map (λ (t : Target). (t, u.named)) o))

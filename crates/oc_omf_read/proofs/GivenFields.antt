@@ -1,5 +1,5 @@
 -- What is given are the fields of the module.
-use Rattle.std.proofs.Common.{◌≡◌, ℕ, suc, ◌+◌, ◌-◌, ◌⊎◌, inl, inr, Bool, true, false, cond, eqb, List, [], ◌∷◌, Option, None, Some, refl, sym, ◌∙◌, ap, subst, arith}
+use Rattle.std.proofs.Common.{◌≡◌, ℕ, ◌+◌, ◌-◌, ◌⊎◌, inl, inr, Bool, true, false, cond, eqb, List, [], ◌∷◌, Option, None, Some, refl, sym, ◌∙◌, ap, subst, arith}
 use Rattle.std.specs.{Prelude.{find, not, nat_eq, slice_get}, Option.{option_and_then, option_map, option_map_or, unwrap_or}}
 use Rattle.std.proofs.lemmas.{Bool.{eqb-true, eq-eqb, true≢false}, Option.{none-some, same_Some, slice_get-map}}
 use Rattle.oc_base.specs.declared.format.Word.TheVariants.{W32}
@@ -29,8 +29,7 @@ number_stands (s ∷ ss) k y e = by (eqb s.number k) refl e (number_stands ss k 
         ap (λ b. slice_get (s ∷ ss) (cond (not b) (1 + position_of ss y.number) 0)) (eq-eqb s.number y.number (ap (λ (z : parts.Symbol). z.number) same)) ∙ ap (λ (z : parts.Symbol). Some z) same
 
     later : (b : Bool) → nat_eq s.number y.number ≡ b → b ≡ false → slice_get ss (position_of ss y.number) ≡ Some y → slice_get (s ∷ ss) (cond (not b) (1 + position_of ss y.number) 0) ≡ Some y
-    later false e f there = let one : 1 + position_of ss y.number ≡ suc (position_of ss y.number) = omega arith in ap (slice_get (s ∷ ss)) one ∙ there
-    later true e f there = absurd (true≢false f)
+    later b e f there = grind arith
 
     by : (b : Bool) → eqb s.number k ≡ b → cond b (Some s) (numbered ss k) ≡ Some y → (numbered ss k ≡ Some y → (y.number ≡ k) × (slice_get ss (position_of ss y.number) ≡ Some y))
         → (y.number ≡ k) × (slice_get (s ∷ ss) (position_of (s ∷ ss) y.number) ≡ Some y)
@@ -123,8 +122,7 @@ module _ (b : List ℕ) (keep : Keep) (n : Object) (shown : shown_symbols n ≡ 
       ap (λ (o : Option Bool). unwrap_or o true) (slice_get-map (λ (x : parts.Section). keeps keep x.kind) (sections_in (tables_of (entries_in b))) s) ∙ by (slice_get (sections_in (tables_of (entries_in b))) s)
     where
       by : (o : Option parts.Section) → unwrap_or (option_map (λ (x : parts.Section). keeps keep x.kind) o) true ≡ option_map_or (λ (x : parts.Section). keeps keep x.kind) o true
-      by None = refl
-      by (Some x) = refl
+      by o = grind arith
 
   whole : (s at : ℕ) → Agree s at (kept_fields omf_dialect b keep s at) (given_at (entries_in b) keep s at)
   unfolding fields_in given_at

@@ -1,10 +1,10 @@
 -- Each structure that is read has a byte, and ends in the contents.
 use Rattle.std.proofs.Common.{◌≡◌, ℕ, ◌+◌, ◌*◌, ◌<◌, ◌≤◌, Bool, true, false, List, length, Ok, Err, refl, sym, ◌∙◌, ap, arith}
-use Rattle.std.specs.Prelude.{nat_eq, nat_le, cond}
+use Rattle.std.specs.Prelude.{nat_le, cond}
 use Rattle.std.proofs.lemmas.{Bool.{true≢false}, Bool.Decides.{nat_tests}}
 use Rattle.oc_omf.specs.{Cursor.{Reading, index_read, next, number_read}, declared.structures.Datum.{Datum}, declared.structures.Method.{Method}}
 use Rattle.oc_omf.specs.{declared.structures.Subrecord.{Subrecord}, declared.structures.Thread.{Thread}}
-use Rattle.oc_omf.specs.Structures.{bits, communal_length, communal_width, displacement_read, fixup_read, frame_read, long_size, method_read, subrecord_read, target_read, thread_read}
+use Rattle.oc_omf.specs.Structures.{bits, communal_width, displacement_read, fixup_read, frame_read, long_size, method_read, subrecord_read, target_read, thread_read}
 use Rattle.oc_neutral.specs.KindRules.{has}
 use Rattle.oc_omf.specs.declared.structures.Datum.TheVariants as datum
 use Rattle.oc_omf.specs.declared.structures.Subrecord.TheVariants as subrecord
@@ -20,10 +20,6 @@ Weak {X} b at r = (x : X) (q : ℕ) → r ≡ Ok (x, q) → at ≤ length b → 
 
 no_ok : {X Y : Type 0} (c : Y) (x : X) → Err c ≡ Ok x → ⊥
 no_ok c x e = cc
-
-strict_next : {X Y : Type 0} (b : List ℕ) (at : ℕ) (r : Reading X) (read : X → ℕ → Reading Y) → Strict b at r → ((x : X) (p : ℕ) → Weak b p (read x p)) → Strict b at (next r read)
-strict_next b at (Ok r) read first rest y q e = let a = first r.0 r.1 refl in let c = rest r.0 r.1 y q e a.1 in (omega (arith, a.0, c.0), c.1)
-strict_next b at (Err c) read first rest y q e = absurd (no_ok c (y, q) e)
 
 weak_next : {X Y : Type 0} (b : List ℕ) (at : ℕ) (r : Reading X) (read : X → ℕ → Reading Y) → Weak b at r → ((x : X) (p : ℕ) → Weak b p (read x p)) → Weak b at (next r read)
 weak_next b at (Ok r) read first rest y q e low = let a = first r.0 r.1 refl low in let c = rest r.0 r.1 y q e a.1 in (omega (arith, a.0, c.0), c.1)
@@ -48,11 +44,6 @@ length_by : (b : List ℕ) (form p : ℕ) (a : Bool) → Weak {X = ℕ × ℕ} b
 length_by b form p true = weak_last b (form, form) p
 length_by b form p false = weak_next b p (number_read (communal_width form) b p) (λ size at. Ok ((form, size), at)) (weak_number (communal_width form) b p) (λ size p. weak_last b (form, size) p)
 
-weak_length : (b : List ℕ) (at : ℕ) → Weak b at (communal_length b at)
-unfolding communal_length
-weak_length b at = weak_next b at (number_read 1 b at) (λ form at. cond (nat_eq (communal_width form) 0) (Ok ((form, form), at)) (next (number_read (communal_width form) b at) (λ size at. Ok ((form, size), at))))
-    (weak_number 1 b at) (λ form p. length_by b form p (nat_eq (communal_width form) 0))
-
 -- ... threads and fixups
 
 weak_method : (number : ℕ) (b : List ℕ) (at : ℕ) → Weak b at (method_read number b at)
@@ -62,13 +53,6 @@ weak_method number b at = by (nat_le number 2)
     by : (c : Bool) → Weak {X = Method} b at (cond c (next (index_read b at) (λ index at. Ok (record { number = number; index = index }, at))) (Ok (record { number = number; index = 0 }, at)))
     by true = weak_next b at (index_read b at) (λ index at. Ok (record { number = number; index = index }, at)) (weak_by b at (index_read b at) (index_goes b at)) (λ index p. weak_last b (record { number = number; index = index }) p)
     by false = weak_last b (record { number = number; index = 0 }) at
-
-weak_thread : (first : ℕ) (b : List ℕ) (at : ℕ) → Weak b at (thread_read first b at)
-unfolding thread_read
-weak_thread first b at =
-    let number : ℕ = cond (has first 0x40) (bits 2 3 first) (bits 2 2 first) in
-    weak_next b at (method_read number b at) (λ method at. Ok (subrecord.Thread (record { frame = has first 0x40; number = bits 0 2 first; method = method }), at)) (weak_method number b at)
-    (λ method p. weak_last b (subrecord.Thread (record { frame = has first 0x40; number = bits 0 2 first; method = method })) p)
 
 weak_frame : (fix : ℕ) (b : List ℕ) (at : ℕ) → Weak b at (frame_read fix b at)
 unfolding frame_read
@@ -94,17 +78,6 @@ weak_displacement wide fix b at = by (has fix 4)
     by : (c : Bool) → Weak {X = ℕ} b at (cond c (Ok (0, at)) (number_read (long_size wide) b at))
     by true = weak_last b 0 at
     by false = weak_number (long_size wide) b at
-
-weak_fixup : (wide : Bool) (first : ℕ) (b : List ℕ) (at : ℕ) → Weak b at (fixup_read wide first b at)
-unfolding fixup_read
-weak_fixup wide first b at =
-    weak_next b at (number_read 1 b at) _ (weak_number 1 b at) (λ low p.
-    weak_next b p (number_read 1 b p) _ (weak_number 1 b p) (λ fix p.
-    weak_next b p (frame_read fix b p) _ (weak_frame fix b p) (λ frame p.
-    weak_next b p (target_read fix b p) _ (weak_target fix b p) (λ target p.
-    weak_next b p (displacement_read wide fix b p) _ (weak_displacement wide fix b p) (λ displacement p.
-    weak_last b
-    (subrecord.Fixup (record { segment_relative = has first 0x40; location = bits 2 4 first; offset = bits 0 2 first * 256 + low; frame = frame; target = target; displacement = displacement })) p)))))
 
 -- a thread has one of four numbers
 few_bits : (byte : ℕ) → bits 0 2 byte < 4

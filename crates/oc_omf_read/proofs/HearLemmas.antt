@@ -1,7 +1,7 @@
 -- What is held of mentions, one mention after the other.
 use Rattle.std.proofs.Common.{◌≡◌, ℕ, zero, suc, ◌+◌, ◌<◌, ◌≤◌, Bool, true, false, cond, List, [], ◌∷◌, ◌++◌, length, map, take, set, get_or, Option, None, Some, refl, sym, ◌∙◌, ap, subst, arith, length-append}
 use Rattle.std.specs.{Prelude.{◌||◌, not, filter_map, fold, slice_get}, List.{cons_option, list_any}, Option.{option_map}}
-use Rattle.std.proofs.lemmas.{Bool.{true≢false}, List.{length-map, map-append}, Option.{none-some, same_Some, slice_get-get_or, slice_get-map}}
+use Rattle.std.proofs.lemmas.{Bool.{true≢false}, List.{length-map, map-append}, Option.{same_Some, slice_get-get_or, slice_get-map}}
 use Rattle.std.proofs.lemmas.List.Elements.{filter_map-append}
 use Rattle.oc_neutral.proofs.FieldLists.{take_here}
 use Rattle.oc_omf.specs.Symbols.{Mention, number_of, same_symbol, with_new}
@@ -26,8 +26,7 @@ pub among_some : (ms : List Mention) (x : Mention) (k : ℕ) → number_among ms
 among_some ms x k e = by (list_any (same_symbol x) ms) refl e
   where
     by : (b : Bool) → list_any (same_symbol x) ms ≡ b → cond b (Some (number_of ms x)) None ≡ Some k → (list_any (same_symbol x) ms ≡ true) × (number_of ms x ≡ k)
-    by true f g = (f, same_Some (number_of ms x) k g)
-    by false f g = absurd (none-some k g)
+    by b f g = grind arith
 
 -- a symbol more is numbered
 pub numbered_push : (old new : Mentions) (x : Mention) → AreNumbered old → Unlike x (held old) → held new ≡ held old ++ x ∷ []

@@ -64,8 +64,7 @@ among_copies section offset s fix at [] same e = absurd (true≢false (sym e))
 among_copies section offset s fix at (c ∷ cs) same e = by (nat_eq at (offset + c)) refl e (among_copies section offset s fix at cs same)
   where
     or_true : (a : Bool) → (a || true) ≡ true
-    or_true true = refl
-    or_true false = refl
+    or_true a = grind arith
 
     by : (b : Bool) → nat_eq at (offset + c) ≡ b → (b || list_any (nat_eq at) (moved offset cs)) ≡ true → (list_any (nat_eq at) (moved offset cs) ≡ true → is_among (fields_at section offset fix cs) s at ≡ true)
         → ((nat_eq section s && nat_eq (offset + c) at) || is_among (fields_at section offset fix cs) s at) ≡ true
@@ -82,16 +81,14 @@ any_flat P f (y ∷ ys) k x here e = by k here (λ k here. any_flat P f ys k x h
     join_left (z ∷ zs) ys e = of (P z) e (join_left zs ys)
       where
         of : (b : Bool) → (b || list_any P zs) ≡ true → (list_any P zs ≡ true → list_any P (zs ++ ys) ≡ true) → (b || list_any P (zs ++ ys)) ≡ true
-        of true e rest = refl
-        of false e rest = rest e
+        of b e rest = grind arith
 
     join_right : (xs ys : List _) → list_any P ys ≡ true → list_any P (xs ++ ys) ≡ true
     join_right [] ys e = e
     join_right (z ∷ zs) ys e = ap (λ b. P z || b) (join_right zs ys e) ∙ or_true (P z)
       where
         or_true : (a : Bool) → (a || true) ≡ true
-        or_true true = refl
-        or_true false = refl
+        or_true a = grind arith
 
     by : (k : ℕ) → slice_get (y ∷ ys) k ≡ Some x → ((k : ℕ) → slice_get ys k ≡ Some x → list_any P (flat_map f ys) ≡ true) → list_any P (f y ++ flat_map f ys) ≡ true
     by zero here rest = join_left (f y) (flat_map f ys) (ap (λ z. list_any P (f z)) (same_Some y x here) ∙ e)
@@ -119,9 +116,7 @@ module _ (file : List ℕ) (keep : Keep) (sections : stage_fault (section_stage 
   fix_made segment f fix e = by (nat_eq f.fixup.location OFFSET_32) (aims.is_kept m.tables keep segment) e
     where
       by : (a b : Bool) → cond (a && b) (fix_by m segment f.fixup f.frame f.target) None ≡ Some fix → (a ≡ true) × (b ≡ true) × (fix_by m segment f.fixup f.frame f.target ≡ Some fix)
-      by true true e = (refl, refl, e)
-      by true false e = absurd (none-some fix e)
-      by false b e = absurd (none-some fix e)
+      by a b e = grind arith
 
   fix_is : (segment : ℕ) (f : Fixed) → nat_eq f.fixup.location OFFSET_32 ≡ true → aims.is_kept m.tables keep segment ≡ true → fix_for m keep segment f.fixup f.frame f.target ≡ fix_by m segment f.fixup f.frame f.target
   unfolding fix_for

@@ -20,8 +20,7 @@ use Rattle.oc_neutral.proofs.Positions.{each_at}
 -- ... stages
 
 pub none_of : (a b : Option Fault) → or_else a b ≡ None → (a ≡ None) × (b ≡ None)
-none_of None b e = (refl, e)
-none_of (Some f) b e = absurd (none-some f (sym e))
+none_of a b e = grind arith
 
 pub stage_clean : {X : Type 0} (stage : X → Stage) (xs : List X) (k : ℕ) (x : X) → first_fault (map stage xs) ≡ None → slice_get xs k ≡ Some x → stage_fault (stage x) ≡ None
 stage_clean stage [] k x clean here = absurd (none-some x here)
@@ -86,8 +85,7 @@ public_found x (p ∷ ps) e = by (same_symbol x (public_mention p)) e (public_fo
     by false f rest = rest f
 
 some_map : {X Y : Type 0} (f : X → Y) (o : Option X) → is_some o ≡ true → is_some (option_map f o) ≡ true
-some_map f None e = e
-some_map f (Some x) e = refl
+some_map f o e = grind arith
 
 external_placed : (es : List Entry) (y : External) → is_undefined (tables_of es) y ≡ false → HasPlace es (of_external y)
 external_placed es y defined local =
@@ -95,9 +93,7 @@ external_placed es y defined local =
     ∙ some_map _ (public_of (tables_of es) (external_mention y)) (public_found (external_mention y) (tables_of es).publics (by y.local (list_any (λ p. same_symbol (external_mention y) (public_mention p)) (tables_of es).publics) local defined))
   where
     by : (a b : Bool) → a ≡ true → (a && not b) ≡ false → b ≡ true
-    by true true e f = refl
-    by true false e f = absurd (true≢false f)
-    by false b e f = absurd (true≢false (sym e))
+    by a b e f = grind arith
 
 place_there : (ts : List Declaration) (k : ℕ) (t : Declaration) → slice_get ts k ≡ Some t → is_some (place_said t.says) ≡ true → is_some (place_in (mention_of t) ts) ≡ true
 place_there [] k t here some = absurd (none-some t here)
@@ -106,13 +102,11 @@ place_there (u ∷ us) zero t here some =
     (first (place_by (mention_of t) t) (place_in (mention_of t) us) (ap (λ b. is_some (cond b (place_said t.says) None)) (same_self (mention_of t)) ∙ some))
   where
     first : (a b : Option (ℕ × ℕ)) → is_some a ≡ true → is_some (or_else a b) ≡ true
-    first None b e = absurd (true≢false (sym e))
-    first (Some x) b e = refl
+    first a b e = grind arith
 place_there (u ∷ us) (suc k) t here some = second (place_by (mention_of t) u) (place_in (mention_of t) us) (place_there us k t here some)
   where
     second : (a b : Option (ℕ × ℕ)) → is_some b ≡ true → is_some (or_else a b) ≡ true
-    second None b e = e
-    second (Some x) b e = refl
+    second a b e = grind arith
 
 -- a mention says where its symbol is, or has one that is placed
 abbrev IsGood : List Entry → Declaration → Type 0
@@ -154,8 +148,7 @@ module _ (es : List Entry) (clean : first_fault (symbol_stages es) ≡ None) whe
   any_at (m ∷ ms) (suc k) x here = ap (λ b. same_symbol x m || b) (any_at ms k x here) ∙ or_true (same_symbol x m)
     where
       or_true : (a : Bool) → (a || true) ≡ true
-      or_true true = refl
-      or_true false = refl
+      or_true a = grind arith
 
   -- each symbol of the module alone has a place
   pub local_placed : (k : ℕ) (x : Mention) → slice_get (mentioned_symbols (declarations_in es)) k ≡ Some x → x.local ≡ true → is_some (place_in x (declarations_in es)) ≡ true

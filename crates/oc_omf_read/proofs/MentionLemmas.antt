@@ -40,8 +40,7 @@ any_mentioned x ts = by [] (map mention_of ts)
     by init (m ∷ ms) = by (with_new init m) ms ∙ ap (λ b. b || list_any (same_symbol x) ms) (any_new x m init) ∙ over (list_any (same_symbol x) init) (same_symbol x m) (list_any (same_symbol x) ms)
       where
         over : (a b c : Bool) → ((a || b) || c) ≡ (a || (b || c))
-        over true b c = refl
-        over false b c = refl
+        over a b c = grind arith
 
 pub symbols_push : (ts : List Declaration) (t : Declaration) → mentioned_symbols (ts ++ t ∷ []) ≡ with_new (mentioned_symbols ts) (mention_of t)
 symbols_push ts t = ap (fold with_new []) (map-append mention_of ts (t ∷ [])) ∙ fold-append with_new [] (map mention_of ts) (mention_of t ∷ [])
@@ -98,8 +97,7 @@ number_low x [] there = absurd (true≢false (sym there))
 number_low x (m ∷ ms) there = by (same_symbol x m) there (number_low x ms)
   where
     by : (b : Bool) → (b || list_any (same_symbol x) ms) ≡ true → (list_any (same_symbol x) ms ≡ true → number_of ms x < length ms) → cond (not b) (1 + number_of ms x) 0 < suc (length ms)
-    by true e rest = omega arith
-    by false e rest = let low = rest e in omega (arith, low)
+    by b e rest = grind arith
 
 -- a symbol that is new has the next number, and the others keep theirs
 pub among_push : (ms : List Mention) (y x : Mention) → Unlike y ms → number_among (ms ++ y ∷ []) x ≡ cond (same_symbol y x) (Some (length ms)) (number_among ms x)

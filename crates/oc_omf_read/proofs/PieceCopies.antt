@@ -1,5 +1,5 @@
 -- Copies of a fixup lie in its data, and apart.
-use Rattle.std.proofs.Common.{◌≡◌, ℕ, zero, suc, ◌+◌, ◌-◌, ◌*◌, ◌<◌, ◌≤◌, Bool, true, false, cond, List, [], ◌∷◌, drop, get_or, length, None, Some, Result, Ok, Err, refl, sym, subst, arith}
+use Rattle.std.proofs.Common.{◌≡◌, ℕ, ◌+◌, ◌-◌, ◌*◌, ◌<◌, ◌≤◌, Bool, true, false, cond, List, [], ◌∷◌, drop, get_or, length, None, Some, Result, Ok, Err, refl, sym, subst, arith}
 use Rattle.std.specs.{Prelude.{◌&&◌, nat_le}, List.{All, AllByRecursion}, Option.{option_map}}
 use Rattle.std.proofs.lemmas.{Bool.Decides.{nat_tests}, List.Elements.{All-weaker}, Option.{none-some, same_Some}}
 use Rattle.oc_omf_records.specs.{declared.faults.BlockFault.{BlockFault}, declared.records.Entry.{Entry as Record}}
@@ -28,8 +28,7 @@ one_well : (size p : ℕ) → p + 4 ≤ size → AreWell size (p ∷ [])
 one_well size p low = record { inside = λ k d l. first k d l; apart = λ i j d a b. absurd (omega (arith, a, b)) }
   where
     first : (k d : ℕ) → k < 1 → get_or (p ∷ []) k d + 4 ≤ size
-    first zero d l = low
-    first (suc k) d l = absurd (omega (arith, l))
+    first k d l = grind arith
 
 plain_copied : (b : List ℕ) → HaveCopies (content 1 0 b none)
 plain_copied b at places e = by (nat_le 0 at && nat_le (at + 4) (0 + length b)) refl e

@@ -28,12 +28,10 @@ any_filter P Q (y ∷ ys) zero x here p q =
 any_filter P Q (y ∷ ys) (suc k) x here p q = by (Q y) (any_filter P Q ys k x here p q)
   where
     or_true : (a b : Bool) → b ≡ true → (a || b) ≡ true
-    or_true true b e = refl
-    or_true false b e = e
+    or_true a b e = grind arith
 
     by : (b : Bool) → list_any P (filter Q ys) ≡ true → list_any P (cond b (y ∷ filter Q ys) (filter Q ys)) ≡ true
-    by true e = or_true (P y) (list_any P (filter Q ys)) e
-    by false e = e
+    by b e = grind arith
 
 last_holds : {X : Type 0} (P : X → Type 0) (xs : List X) (x : X) → AllByRecursion P xs → last_of xs ≡ Some x → P x
 last_holds P [] x all e = absurd (none-some x e)
@@ -57,9 +55,7 @@ none_at P [] k x none here = absurd (none-some x here)
 none_at P (y ∷ ys) k x none here = by (P y) refl none (λ k. none_at P ys k x) k here
   where
     by : (b : Bool) → P y ≡ b → (b || list_any P ys) ≡ false → ((k : ℕ) → list_any P ys ≡ false → slice_get ys k ≡ Some x → P x ≡ false) → (k : ℕ) → slice_get (y ∷ ys) k ≡ Some x → P x ≡ false
-    by true e none rest k here = absurd (true≢false none)
-    by false e none rest zero here = ap P (sym (same_Some y x here)) ∙ e
-    by false e none rest (suc k) here = rest k none here
+    by b e none rest k here = grind arith
 
 -- one that is among some passes for them
 any_by : (P : ℕ → Bool) (at : ℕ) (xs : List ℕ) → list_any (nat_eq at) xs ≡ true → P at ≡ true → list_any P xs ≡ true
@@ -67,12 +63,10 @@ any_by P at [] among is = absurd (true≢false (sym among))
 any_by P at (x ∷ xs) among is = by (nat_eq at x) refl among (λ more. any_by P at xs more is)
   where
     or_true : (a : Bool) → (a || true) ≡ true
-    or_true true = refl
-    or_true false = refl
+    or_true a = grind arith
 
     by : (b : Bool) → nat_eq at x ≡ b → (b || list_any (nat_eq at) xs) ≡ true → (list_any (nat_eq at) xs ≡ true → list_any P xs ≡ true) → (P x || list_any P xs) ≡ true
-    by true e among rest = ap (λ b. b || list_any P xs) (ap P (sym (eqb-true at x e)) ∙ is)
-    by false e among rest = ap (λ b. P x || b) (rest among) ∙ or_true (P x)
+    by b e among rest = grind arith
 
 -- two that are among numbers that stand apart, in their order
 pub position_of_any : (at : ℕ) (xs : List ℕ) → list_any (nat_eq at) xs ≡ true → (k : ℕ) × (k < length xs) × ((d : ℕ) → get_or xs k d ≡ at)
@@ -181,10 +175,7 @@ module _ (file : List ℕ) (keep : Keep) (sections : stage_fault (section_stage 
   at_by s at p f here is kept = by f.piece refl is
     where
       both : (a b c : Bool) → (a && b && c) ≡ true → (a ≡ true) × (b ≡ true) × (c ≡ true)
-      both true true true e = (refl, refl, refl)
-      both true true false e = absurd (true≢false (sym e))
-      both true false c e = absurd (true≢false (sym e))
-      both false b c e = absurd (true≢false (sym e))
+      both a b c e = grind arith
 
       by : (o : Option Piece) → f.piece ≡ o → (option_map_or (λ (d : Piece). nat_eq d.segment (s + 1)) o false && list_any (nat_eq at) (field_offsets f) && nat_eq f.fixup.location OFFSET_32) ≡ true → IsAt s at p f
       by None e h = absurd (true≢false (sym h))
@@ -228,8 +219,7 @@ module _ (file : List ℕ) (keep : Keep) (sections : stage_fault (section_stage 
             ∙ ap (λ (o : Option (List ℕ)). moved m.data_.offset (unwrap_or o [])) e
 
         by : (o : Option (List ℕ)) → copies_of (blocks_in m.data_.blocks) f.fixup.offset ≡ o → HasCopies
-        by None e = absurd (true≢false (sym m.among ∙ ap (list_any (nat_eq at)) (offsets_by None e)))
-        by (Some places) e = record { places = places; are = e; offsets = offsets_by (Some places) e }
+        by o e = grind arith
 
   -- a place that is moved
   pub moved_from : (by at : ℕ) (xs : List ℕ) → list_any (nat_eq at) (moved by xs) ≡ true → (x : ℕ) × (at ≡ by + x) × (list_any (nat_eq x) xs ≡ true)
@@ -237,8 +227,7 @@ module _ (file : List ℕ) (keep : Keep) (sections : stage_fault (section_stage 
   moved_from by at (x ∷ xs) e = of (nat_eq at (by + x)) refl e (moved_from by at xs)
     where
       or_true : (a : Bool) → (a || true) ≡ true
-      or_true true = refl
-      or_true false = refl
+      or_true a = grind arith
 
       of : (b : Bool) → nat_eq at (by + x) ≡ b → (b || list_any (nat_eq at) (moved by xs)) ≡ true → (list_any (nat_eq at) (moved by xs) ≡ true → (y : ℕ) × (at ≡ by + y) × (list_any (nat_eq y) xs ≡ true))
           → (y : ℕ) × (at ≡ by + y) × (list_any (nat_eq y) (x ∷ xs) ≡ true)

@@ -1,5 +1,5 @@
 -- What is built before the relocations can be read.
-use Rattle.std.proofs.Common.{◌≡◌, ℕ, Bool, true, false, cond, List, [], ◌∷◌, map, refl, sym}
+use Rattle.std.proofs.Common.{◌≡◌, ℕ, Bool, true, cond, List, [], ◌∷◌, map, sym, arith}
 use Rattle.std.specs.{Prelude.{◌&&◌, not, bytes_eq, codes}, List.{AllByRecursion, enumerate_from}}
 use Rattle.std.proofs.lemmas.Bool.{true≢false}
 use Rattle.oc_base.specs.{declared.format.Format.TheVariants.{Omf}, Strings.{ends}}
@@ -17,11 +17,7 @@ unfolding omf_kind
 kind_given class covered name = by (ends (codes "CODE") class) (begins class (codes "DEB")) (bytes_eq class (codes "CONST")) (bytes_eq class (codes "BSS") && not covered)
   where
     by : (a b c d : Bool) → can_have Omf (cond a Code (cond b Debug (cond c ReadOnly (cond d Zero Data)))) name omf_tag ≡ true
-    by true b c d = refl
-    by false true c d = refl
-    by false false true d = refl
-    by false false false true = refl
-    by false false false false = refl
+    by a b c d = grind arith
 
 all_given : (t : all.Tables) (xs : List (ℕ × Segment)) → AllByRecursion (λ (s : Section). can_have Omf s.kind s.name s.tag ≡ true) (map (stored_section []) (map (section_of t) xs))
 all_given t [] = tt

@@ -1,5 +1,5 @@
 -- What is given are the fields of the module, of which no two meet and none is a difference.
-use Rattle.std.proofs.Common.{◌≡◌, ℕ, ◌+◌, ◌≤◌, List, None, Some, refl, sym, ◌∙◌, ap, arith}
+use Rattle.std.proofs.Common.{◌≡◌, ℕ, ◌+◌, ◌≤◌, List, None, Some, sym, ◌∙◌, ap, arith}
 use Rattle.oc_linking.specs.{declared.terms.Hint.TheVariants.{Call}, declared.terms.Keep.{Keep}, declared.terms.Width.TheVariants.{Four}}
 use Rattle.oc_linking.specs.{FirstFault.{first_fault, stage_fault}, Fits.{bytes_of}, Rules.{Field}}
 use Rattle.oc_linking.specs.declared.terms.Less.TheVariants as less
@@ -15,19 +15,13 @@ use Rattle.oc_shows.proofs.GivenLaws as laws
 
 -- no section is taken
 pub takes_none : (f : FixupFrame) (s k : ℕ) → rows.less_of (fixup_row (framed_as f)).taken s ≡ less.Section k → ⊥
-takes_none framed.Flat s k e = cc
-takes_none framed.Home s k e = cc
-takes_none framed.Own s k e = cc
+takes_none f s k e = grind arith
 
 width_four : (f : FixupFrame) → (fixup_row (framed_as f)).width ≡ Four
-width_four framed.Flat = refl
-width_four framed.Home = refl
-width_four framed.Own = refl
+width_four f = grind arith
 
 no_call : (f : FixupFrame) → (fixup_row (framed_as f)).hint ≡ Call → ⊥
-no_call framed.Flat e = cc
-no_call framed.Home e = cc
-no_call framed.Own e = cc
+no_call f e = grind arith
 
 -- ... what stands
 

@@ -43,12 +43,7 @@ unfolding omf_kind
 zero_uncovered class covered is = by (ends (codes "CODE") class) (begins class (codes "DEB")) (bytes_eq class (codes "CONST")) (bytes_eq class (codes "BSS")) covered is
   where
     by : (a b c d e : Bool) → is_zero (cond a Code (cond b Debug (cond c ReadOnly (cond (d && not e) Zero Data)))) ≡ true → e ≡ false
-    by true b c d e h = absurd (true≢false (sym h))
-    by false true c d e h = absurd (true≢false (sym h))
-    by false false true d e h = absurd (true≢false (sym h))
-    by false false false true false h = refl
-    by false false false true true h = absurd (true≢false (sym h))
-    by false false false false e h = absurd (true≢false (sym h))
+    by a b c d e h = grind arith
 
 empty_laid : (d : Piece) (bytes : List ℕ) → nat_lt 0 (piece_size d) ≡ false → laid_over bytes d ≡ bytes
 empty_laid d bytes none =
@@ -71,8 +66,7 @@ empty_all (d ∷ ds) bytes none =
     ap (λ (xs : List ℕ). fold laid_over xs ds) (empty_laid d bytes both.0) ∙ empty_all ds bytes both.1
   where
     neither : (a b : Bool) → (a || b) ≡ false → (a ≡ false) × (b ≡ false)
-    neither true b e = absurd (true≢false e)
-    neither false b e = (refl, e)
+    neither a b e = grind arith
 
 zeros_at : (t : all.Tables) (x : ℕ × Segment) → is_zero (segment_kind t x.0 x.1) ≡ true → contents_of t x.0 (segment_size x.1) ≡ replicate (segment_size x.1) 0
 unfolding contents_of
@@ -108,13 +102,10 @@ not_weak : (s : ModuleSymbol) (g : Fallback) → binding_seen s ≡ Weak g → �
 not_weak s g e = by s.place s.length e
   where
     placed : (local : Bool) (place : ℕ × ℕ) → place_binding local place ≡ Weak g → ⊥
-    placed true place e = cc
-    placed false place e = cc
+    placed local place e = grind arith
 
     by : (p : Option (ℕ × ℕ)) (n : Option ℕ) → option_map_or (place_binding s.local) p (option_map_or (λ size. Common size (natural_align size)) n Undefined) ≡ Weak g → ⊥
-    by (Some place) n e = placed s.local place e
-    by None (Some size) e = cc
-    by None None e = cc
+    by p n e = grind arith
 
 no_weak : (es : List Entry) (k : ℕ) (s : parts.Symbol) (g : Fallback) → slice_get (symbols_in es) k ≡ Some s → s.binding ≡ Weak g → ⊥
 unfolding symbols_in

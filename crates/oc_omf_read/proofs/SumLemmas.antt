@@ -1,8 +1,8 @@
 -- The limits that segments without a fault keep.
-use Rattle.std.proofs.Common.{◌≡◌, ℕ, zero, suc, ◌+◌, ◌<◌, ◌≤◌, ◌⊎◌, inl, inr, Bool, true, false, cond, List, [], ◌∷◌, ◌++◌, length, map, Option, None, Some, Ok, Err, refl, sym, ◌∙◌, ap, subst, arith, append-nil, length-append}
+use Rattle.std.proofs.Common.{◌≡◌, ℕ, zero, suc, ◌+◌, ◌<◌, ◌≤◌, ◌⊎◌, inl, inr, Bool, true, false, cond, List, [], ◌∷◌, ◌++◌, length, map, Option, None, Some, refl, sym, ◌∙◌, ap, subst, arith, append-nil, length-append}
 use Rattle.std.specs.{Prelude.{◌&&◌, ◌||◌, not, flat_map, nat_eq, nat_lt, slice_get}, List.{AllByRecursion, sum_by}}
 use Rattle.std.specs.Option.{option_map, option_map_or, unwrap_or}
-use Rattle.std.proofs.lemmas.{Bool.{eqb-true, true≢false}, Bool.Decides.{nat_tests}, List.Sums.{sum_by-append}, Option.{none-some, slice_get-map}}
+use Rattle.std.proofs.lemmas.{Bool.{eqb-true, true≢false}, Bool.Decides.{nat_tests}, List.Sums.{sum_by-append}, Option.{slice_get-map}}
 use Rattle.std.proofs.Math.Seq.{take-length}
 use Rattle.oc_linking.specs.FirstFault.{first_broken, stage_fault}
 use Rattle.oc_shelf.proofs.ReadingLaws.StageLemmas.{all_hold}
@@ -22,8 +22,7 @@ use Rattle.oc_omf_read.proofs.{ClassLemmas.{read_whole}, DefinedLemmas.{entry_he
 -- ... an entry has one segment at most
 
 one_at_most : {X : Type 0} (r : Reading X) → (read_in r ≡ []) ⊎ ((x : X) × (read_in r ≡ x ∷ []))
-one_at_most (Ok r) = inr (r.0, refl)
-one_at_most (Err c) = inl refl
+one_at_most r = grind arith
 
 segments_of : (r : Record) (k : EntryClass) → class_of r.kind ≡ k → (all_read (said r).segments ≡ []) ⊎ ((s : Segment) × (all_read (said r).segments ≡ s ∷ []))
 segments_of r class.Segment is = elim (one_at_most (segment_read (is_wide r.kind) r.contents 0)) [
@@ -53,8 +52,7 @@ unfolding entries_in
 said_here file i e here = by (slice_get (places_in file) i) refl (sym (slice_get-map (said_at file) (places_in file) i) ∙ here)
   where
     by : (o : Option ℕ) → slice_get (places_in file) i ≡ o → option_map (said_at file) o ≡ Some e → IsSaid file i e
-    by None h g = absurd (none-some e g)
-    by (Some at) h g = record { at = at; there = h; is = ap (λ (o : Option Entry). unwrap_or o e) (sym g) }
+    by o h g = grind arith
 
 module _ (file : List ℕ) (clean : stage_fault (section_stage (entries_in file)) ≡ None) where
   abbrev es : List Entry
@@ -148,9 +146,7 @@ module _ (file : List ℕ) (head : IsModule file) (clean : stage_fault (section_
   ends_here m = by (is_whole file m.at) (is_kind MODEND (entry_of file m.at).kind) (whole_at file m.j m.at head.clean m.there) refl m.none
     where
       by : (w k : Bool) → w ≡ true → is_kind MODEND (entry_of file m.at).kind ≡ k → cond (not w || k) None (Some (end_of_entry file m.at)) ≡ None → k ≡ true
-      by true true e f g = refl
-      by true false e f g = absurd (none-some (end_of_entry file m.at) (sym g))
-      by false k e f g = absurd (true≢false (sym e))
+      by w k e f g = grind arith
 
   -- an entry that defines nothing changes nothing
   nothing_more : (t : all.Tables) (place : ℕ) (ends : Bool) → with_entry t (record (says_nothing place) { ends = ends }) ≡ t

@@ -23,8 +23,7 @@ use Rattle.oc_omf_judge.proofs.MentionLemmas.{same_self}
 -- ... bindings
 
 plain_place : (ss : List parts.Symbol) (local : Bool) (place : ℕ × ℕ) → placed_binding ss (place_binding local place) ≡ place_binding local place
-plain_place ss true place = refl
-plain_place ss false place = refl
+plain_place ss local place = grind arith
 
 plain_binding : (ss : List parts.Symbol) (s : ModuleSymbol) → placed_binding ss (binding_seen s) ≡ binding_seen s
 plain_binding ss s = by s.place s.length
@@ -36,15 +35,13 @@ plain_binding ss s = by s.place s.length
     by None None = refl
 
 local_place : (local : Bool) (place : ℕ × ℕ) → is_local (place_binding local place) ≡ local
-local_place true place = refl
-local_place false place = refl
+local_place local place = grind arith
 
 local_seen : (s : ModuleSymbol) → is_some s.place ≡ true → is_local (binding_seen s) ≡ s.local
 local_seen s some = by s.place some
   where
     by : (p : Option (ℕ × ℕ)) → is_some p ≡ true → is_local (option_map_or (place_binding s.local) p (option_map_or (λ size. Common size (natural_align size)) s.length Undefined)) ≡ s.local
-    by (Some place) e = local_place s.local place
-    by None e = absurd (true≢false (sym e))
+    by p e = grind arith
 
 apart_at : (ms : List Mention) (j k : ℕ) (x y : Mention) → AreApart ms → j < k → slice_get ms j ≡ Some x → slice_get ms k ≡ Some y → x ≡ y → ⊥
 apart_at [] j k x y apart low at_j at_k same = none-some x at_j
@@ -53,8 +50,7 @@ apart_at (m ∷ ms) zero (suc k) x y apart low at_j at_k same =
     true≢false (sym (there ms k at_k) ∙ ap (λ (z : Mention). list_any (same_symbol z) ms) (sym (same_Some m x at_j ∙ same)) ∙ apart.0)
   where
     or_true : (a : Bool) → (a || true) ≡ true
-    or_true true = refl
-    or_true false = refl
+    or_true a = grind arith
 
     there : (xs : List Mention) (k : ℕ) → slice_get xs k ≡ Some y → list_any (same_symbol y) xs ≡ true
     there [] k here = absurd (none-some y here)
@@ -135,8 +131,7 @@ module _ (es : List Entry) (clean : first_fault (symbol_stages es) ≡ None) whe
       by (slice_get ms k) refl (sym (slice_get-map (seen_in (declarations_in es)) ms k) ∙ ap (λ (xs : List ModuleSymbol). slice_get xs k) (sym has.symbols) ∙ slice_get-map seen_of m.symbols.items k ∙ ap (option_map seen_of) here)
     where
       by : (o : Option Mention) → slice_get ms k ≡ o → option_map (seen_in (declarations_in es)) o ≡ Some (seen_of s) → (x : Mention) × (slice_get ms k ≡ Some x) × (seen_of s ≡ seen_in (declarations_in es) x)
-      by None e h = absurd (none-some (seen_of s) h)
-      by (Some x) e h = (x, e, sym (same_Some (seen_in (declarations_in es) x) (seen_of s) h))
+      by o e h = grind arith
 
   -- so that is added
   pub symbol_ready : (m : Mentions) → HasDeclarations (declarations_in es) m → (k : ℕ) (s : Mentioned) → slice_get m.symbols.items k ≡ Some s → symbol_added (symboled es k) (symbol_seen k (seen_of s)) ≡ Ok (symboled es (k + 1))

@@ -1,5 +1,5 @@
 -- Names that are mentioned are bytes, and lengths of communals are small.
-use Rattle.std.proofs.Common.{◌≡◌, ℕ, zero, suc, ◌+◌, ◌-◌, ◌^◌, ◌<◌, ◌≤◌, Bool, true, false, cond, List, [], ◌∷◌, drop, length, map, Option, None, Some, Ok, Err, refl, sym, ◌∙◌, ap, subst, arith}
+use Rattle.std.proofs.Common.{◌≡◌, ℕ, zero, suc, ◌+◌, ◌-◌, ◌^◌, ◌<◌, ◌≤◌, Bool, true, false, cond, List, [], ◌∷◌, drop, length, map, Option, Some, Ok, Err, refl, sym, ◌∙◌, ap, subst, arith}
 use Rattle.std.specs.{Prelude.{nat_eq, nat_le, nat_lt, slice_range}, List.{AllByRecursion}}
 use Rattle.oc_base.specs.Numbers.{number_at}
 use Rattle.oc_neutral.specs.Invariants.{AreBytes}
@@ -87,10 +87,7 @@ width_room : (form : ℕ) → room (communal_width form) ≤ 4294967296
 width_room form = by (nat_eq form 0x81) (nat_eq form 0x84) (nat_eq form 0x88)
   where
     by : (a b c : Bool) → room (cond a 2 (cond b 3 (cond c 4 0))) ≤ 4294967296
-    by true b c = omega arith
-    by false true c = omega arith
-    by false false true = omega arith
-    by false false false = omega arith
+    by a b c = grind arith
 
 length_small : (b : List ℕ) → AreBytes b → (at : ℕ) (x : ℕ × ℕ) (q : ℕ) → communal_length b at ≡ Ok (x, q) → x.1 < 4294967296
 unfolding communal_length
@@ -147,8 +144,7 @@ external_of : (y : External) → AreBytes y.name × ((c : Communal) → y.commun
 external_of y has = record { name = has.0; length = by y.communal has.1 }
   where
     by : (o : Option Communal) → ((c : Communal) → o ≡ Some c → c.length < 4294967296) → (n : ℕ) → length_said (of_external (record { local = y.local; name = y.name; communal = o })).says ≡ Some n → n < 4294967296
-    by None few n e = absurd (none-some n e)
-    by (Some c) few n e = subst (λ (k : ℕ). k < 4294967296) (same_Some c.length n e) (few c refl)
+    by o few n e = grind arith
 
 externals_bytes : (read : List ℕ → ℕ → Reading External) (b : List ℕ) → ((at : ℕ) (x : External) (q : ℕ) → read b at ≡ Ok (x, q) → AreBytes x.name × ((c : Communal) → x.communal ≡ Some c → c.length < 4294967296))
     → AllByRecursion IsOfBytes (map of_external (all_read (each_read read b 0)))

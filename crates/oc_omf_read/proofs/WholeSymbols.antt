@@ -6,7 +6,6 @@ use Rattle.std.proofs.lemmas.{Bool.{true≢false}, Bool.Decides.{nat_tests}, Opt
 use Rattle.oc_base.specs.declared.code.Code.TheVariants.{DuplicateName, SymbolKind, BadSymbol}
 use Rattle.oc_linking.specs.{FirstFault.{Condition, fault_of, first_broken, first_fault, stage_fault}, Numbers.{first_from, or_else}}
 use Rattle.oc_linking.specs.Parts as parts
-use Rattle.oc_linking.proofs.Searching.{first_from_found}
 use Rattle.oc_shows.specs.{Computed.{computed_symbol}, Started.{stored_section}}
 use Rattle.oc_neutral.specs.{Invariants.{AreBytes, HasOffset, IsAlign, IsBinding, IsSymbol}, Objects.{Object}, Powers.{natural_align}}
 use Rattle.oc_neutral.proofs.Positions.{each_at}
@@ -39,8 +38,7 @@ natural_aligns : (n : ℕ) → IsAlign (natural_align n)
 natural_aligns n = by (first_from (λ k. nat_le n (2 ^ k)) 0 5) refl
   where
     by : (o : Option ℕ) → first_from (λ k. nat_le n (2 ^ k)) 0 5 ≡ o → IsAlign (2 ^ unwrap_or o 5)
-    by None e = (5, omega arith, refl)
-    by (Some i) e = let m = first_from_found (λ k. nat_le n (2 ^ k)) 0 5 i e in let low = m.1 in (i, omega (arith, low), refl)
+    by o e = grind arith
 
 -- ... stages
 
@@ -109,8 +107,7 @@ good_base groups segments at b clean =
     (some_of b.segment holds.1.0, at_most segments b.segment (second (nat_lt groups b.group) (nat_lt segments b.segment) holds.0))
   where
     second : (a b : Bool) → (a || b) ≡ false → b ≡ false
-    second true b e = absurd (true≢false e)
-    second false b e = e
+    second a b e = grind arith
 
     at_most : (a b : ℕ) → nat_lt a b ≡ false → b ≤ a
     at_most a b e = grind (arith, nat_tests)
@@ -272,8 +269,7 @@ module _ (file : List ℕ) (bytes : AreBytes file) (sections : stage_fault (sect
   externals_whole (y ∷ ys) all = (record { full = all.0; lies = λ q is. absurd (by y.communal q is) }, externals_whole ys all.1)
     where
       by : (o : Option Communal) (q : ℕ × ℕ) → place_said (of_external (record { local = y.local; name = y.name; communal = o })).says ≡ Some q → ⊥
-      by None q is = none-some q is
-      by (Some c) q is = none-some q is
+      by o q is = grind arith
 
   told_whole : AllByRecursion IsWhole (declarations_in es)
   unfolding declarations_in

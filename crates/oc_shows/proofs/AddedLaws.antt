@@ -2,7 +2,7 @@
 use Rattle.std.proofs.Common.{◌≡◌, ℕ, ◌+◌, ◌<◌, ◌≤◌, Bool, true, false, cond, List, length, take, get_or, Option, None, Some, Ok, refl, sym, ◌∙◌, ap, arith, inl, inr}
 use Rattle.std.specs.Prelude.{◌&&◌, ◌||◌, nat_eq, nat_lt}
 use Rattle.std.proofs.Math.Seq.{take-length}
-use Rattle.std.proofs.lemmas.{Bool.{cases_eq, eq-eqb, eqb-true, ne_eqb, true≢false}, Bool.Decides.{nat_tests}, List.Folds.{list_any_more}, Option.{none-some}}
+use Rattle.std.proofs.lemmas.{Bool.{cases_eq, eq-eqb, eqb-true, ne_eqb, true≢false}, Bool.Decides.{nat_tests}, List.Folds.{list_any_more}}
 use Rattle.oc_linking.specs.{declared.terms.Keep.{Keep}, Rules.{Field}}
 use Rattle.oc_neutral.specs.{declared.reloc.Reloc.{Reloc}, Building.{Draft, reloc_added}, Dialects.{Dialect, kept_fields}, Invariants.{CanAdd}}
 use Rattle.oc_shows.specs.Built.{AreApart, AreOfFile, DifferencesFit, RelocMap, HasAdded, IsField, IsStarted, and_one}
@@ -23,18 +23,15 @@ one_more given done more s at r is grown t x = by (nat_eq t s) (nat_eq at x) ref
         of (done t x) here
       where
         of : (d : Bool) → given t x ≡ Some r → Some r ≡ cond (d || true) (given t x) None
-        of true here = sym here
-        of false here = sym here
+        of d here = grind arith
     by true false e g = of (done t x)
       where
         of : (d : Bool) → cond d (given t x) None ≡ cond (d || false) (given t x) None
-        of true = refl
-        of false = refl
+        of d = grind arith
     by false b e g = of (done t x)
       where
         of : (d : Bool) → cond d (given t x) None ≡ cond (d || false) (given t x) None
-        of true = refl
-        of false = refl
+        of d = grind arith
 
 -- each relocation that is given for a file can be added to what was built of it
 pub record AreAddable (base : Draft) (given : RelocMap) : Type 0 where
@@ -71,8 +68,7 @@ taken base given a done more d s at r is has new grown = record {
     part t x q e = by (done t x) e
       where
         by : (b : Bool) → cond b (given t x) None ≡ Some q → (y : Field) × (kept_fields a.dialect a.file a.keep t x ≡ Some y) × IsField a.dialect a.file a.keep base.object t x q y
-        by true e = a.of_file t x q e
-        by false e = absurd (none-some q e)
+        by b e = grind arith
 
     field : (x : Field) × (kept_fields a.dialect a.file a.keep s at ≡ Some x) × IsField a.dialect a.file a.keep base.object s at r x
     field = a.of_file s at r is
@@ -96,10 +92,7 @@ entry_taken base given a before p none entries j e below free d has at place r i
     (new (before p) (nat_eq p p) (is_among (take j entries) at) none (ap (is_among (take j entries)) place ∙ free)) grown
   where
     new : (a b c : Bool) → a ≡ false → c ≡ false → (a || b && c) ≡ false
-    new false true false e g = refl
-    new false false false e g = refl
-    new true b c e g = absurd (true≢false e)
-    new a b true e g = absurd (true≢false g)
+    new a b c e g = grind arith
 
     grown : (s x : ℕ) → done_upto before p entries (j + 1) s x ≡ (done_upto before p entries j s x || nat_eq s p && nat_eq at x)
     grown s x =
@@ -108,10 +101,7 @@ entry_taken base given a before p none entries j e below free d has at place r i
         ∙ ap (λ (q : ℕ). done_upto before p entries j s x || nat_eq s p && nat_eq q x) (sym place)
       where
         by : (a b c f : Bool) → (a || b && (c || f)) ≡ (a || b && c || b && f)
-        by true b c f = refl
-        by false true true f = refl
-        by false true false f = refl
-        by false false c f = refl
+        by a b c f = grind arith
 
 module _ (given : RelocMap) (before after : ℕ → Bool) (p : ℕ) (alike : (s : ℕ) → (s ≡ p → ⊥) → after s ≡ before s) where
   -- a section for which nothing is given is passed
@@ -122,10 +112,7 @@ module _ (given : RelocMap) (before after : ℕ → Bool) (p : ℕ) (alike : (s 
   ]
     where
       both : (a b : Bool) → given s at ≡ None → cond a (given s at) None ≡ cond b (given s at) None
-      both true true e = refl
-      both true false e = e
-      both false true e = sym e
-      both false false e = refl
+      both a b e = grind arith
 
   -- with all entries the section is done
   pub table_done : after p ≡ true → (entries : List PlacedEntry) → ((at : ℕ) (r : Reloc) → given p at ≡ Some r → is_among entries at ≡ true)
@@ -136,11 +123,7 @@ module _ (given : RelocMap) (before after : ℕ → Bool) (p : ℕ) (alike : (s 
   ]
     where
       there : (a b q : Bool) → q ≡ false → b ≡ a → cond (a || q && is_among (take (length entries) entries) at) (given s at) None ≡ cond b (given s at) None
-      there true true false h k = refl
-      there false false false h k = refl
-      there true false q h k = absurd (true≢false (sym k))
-      there false true q h k = absurd (true≢false k)
-      there a b true h k = absurd (true≢false h)
+      there a b q h k = grind arith
 
       none_left : s ≡ p → is_among (take (length entries) entries) at ≡ false → (o : Option Reloc) → given s at ≡ o → None ≡ o
       none_left same free None e = refl
@@ -166,8 +149,7 @@ pub lt_stays : (s p : ℕ) → (s ≡ p → ⊥) → nat_lt s (p + 1) ≡ nat_lt
 lt_stays s p other = by (nat_lt s p) refl
   where
     by : (b : Bool) → nat_lt s p ≡ b → nat_lt s (p + 1) ≡ b
-    by true e = grind (arith, nat_tests)
-    by false e = elim (cases_eq s p) [ inl same ↦ absurd (other same) | inr ne ↦ grind (arith, nat_tests) ]
+    by b e = grind arith
 
 -- for all sections all is given
 pub given_all : (given : RelocMap) (p : ℕ) → ((s at : ℕ) → p ≤ s → given s at ≡ None) → (s at : ℕ) → cond (nat_lt s p) (given s at) None ≡ given s at
@@ -177,5 +159,4 @@ given_all given p none s at = by (nat_lt s p) refl
     past e = grind (arith, nat_tests)
 
     by : (b : Bool) → nat_lt s p ≡ b → cond b (given s at) None ≡ given s at
-    by true e = refl
-    by false e = sym (none s at (past e))
+    by b e = grind arith

@@ -17,24 +17,20 @@ pub placed_given : (keys : List (List ℕ)) (key : List ℕ) (o : Option ℕ) �
 placed_given keys key o is = ap is_some is ∙ by (is_given keys key)
   where
     by : (b : Bool) → is_some (cond b (Some (position_or_len (bytes_eq key) keys)) None) ≡ b
-    by true = refl
-    by false = refl
+    by b = grind arith
 
 given_more : (keys : List (List ℕ)) (key other : List ℕ) → is_given (keys ++ key ∷ []) other ≡ (is_given keys other || bytes_eq other key)
 given_more [] key other = or_none (bytes_eq other key)
   where
     or_none : (b : Bool) → (b || false) ≡ b
-    or_none true = refl
-    or_none false = refl
+    or_none b = grind arith
 given_more (k ∷ keys) key other = ap (λ b. bytes_eq other k || b) (given_more keys key other) ∙ assoc (bytes_eq other k) (is_given keys other) (bytes_eq other key)
   where
     assoc : (a b c : Bool) → (a || (b || c)) ≡ ((a || b) || c)
-    assoc true b c = refl
-    assoc false b c = refl
+    assoc a b c = grind arith
 
 pub or_true : (b : Bool) → (b || true) ≡ true
-or_true true = refl
-or_true false = refl
+or_true b = grind arith
 
 -- once the key of slot g is begun, each slot has the place of its key
 pub slot_begun : (keys : List (List ℕ)) (slots : List (Option ℕ)) (g : ℕ) (key : List ℕ) → g < length slots → is_given keys key ≡ false
@@ -53,8 +49,7 @@ slot_begun keys slots g key low new h other before there back = elim (cases_eq g
 ]
   where
     unlike : (b : Bool) → (b ≡ true → ⊥) → b ≡ false
-    unlike true unequal = absurd (unequal refl)
-    unlike false unequal = refl
+    unlike b unequal = grind arith
 
     stays : bytes_eq other key ≡ false → (b : Bool) → is_given keys other ≡ b → place_in keys other ≡ place_in (keys ++ key ∷ []) other
     stays apart true e =
@@ -98,8 +93,7 @@ pub keys_passed : (section : ℕ → Option parts.Section) (k : ℕ) → is_some
 keys_passed section k is = ap (λ (xs : List parts.Section). keys_after [] (map (λ (s : parts.Section). s.group) xs)) (collected-none section k (none_of (section k) is))
   where
     none_of : (o : Option parts.Section) → is_some o ≡ false → o ≡ None
-    none_of None h = refl
-    none_of (Some x) h = absurd (true≢false h)
+    none_of o h = grind arith
 
 module _ (section : ℕ → Option parts.Section) (key_at : ℕ → Option (List ℕ)) (own : (k : ℕ) (s : parts.Section) → section k ≡ Some s → s.group ≡ key_at k) where
   keys_pushed : (k : ℕ) → is_some (section k) ≡ true → section_keys section (k + 1) ≡ section_keys section k ++ key_at k ∷ []

@@ -5,7 +5,7 @@ use Rattle.std.proofs.Math.Nat.{zero-div}
 use Rattle.std.proofs.lemmas.{Bool.{eqb-true}, List.{ext_get_or}, Option.{none-some, same_Some, slice_get_within}}
 use Rattle.oc_base.specs.{declared.format.Word.{Word}, Formats.{word_for}}
 use Rattle.oc_linking.specs.{declared.terms.Patch.{Patch}, Fits.{bytes_of}, Numbers.{minus}, Placing.{Placement}, Values.{Valuation, worthless}}
-use Rattle.oc_linking.specs.{Rules.{Symbolic}, Images.{byte_by, byte_upto, overlay}, Linking.{patch_of}, Shows.{blank, under_of, unders}}
+use Rattle.oc_linking.specs.{Images.{byte_by, byte_upto, overlay}, Linking.{patch_of}, Shows.{blank, under_of, unders}}
 use Rattle.oc_linking.proofs.{Apart.{byte_from}, Overlay.{length-overlay}, Storing.{byte_of_image, byte_of_field}, Upto.{first_upto_from}}
 use Rattle.oc_algebra.specs.Residues.{residue_of}
 use Rattle.oc_chains.specs.{declared.field.Field.{Field}, Lists.{Lists, list_of}}
@@ -37,8 +37,7 @@ found_field P (x ∷ xs) at r all here =
 
 -- what stands under a field that is not folded is zero
 under_blank : (c : Option Patch) (q : Patch) → under_of false c ≡ Some q → (z : Patch) × (c ≡ Some z) × (blank z ≡ q)
-under_blank None q here = absurd (none-some q here)
-under_blank (Some z) q here = (z, refl, same_Some (blank z) q here)
+under_blank c q here = grind arith
 
 -- a field of zeros stores zeros
 zero_stored : (o : ℕ → Option Patch) (i back x : ℕ) (q : Patch) → o (i - back) ≡ Some q → back ≤ i → back < bytes_of q.width → q.residue ≡ 0 → byte_by o i back ≡ Some x → x ≡ 0
@@ -112,8 +111,7 @@ module _ (xs ys : List Symbol) (long : length xs ≡ length ys) (numbers : (k : 
   target_same p v (target.Symbol k) = worth_same v k
 
   pub named_same : (t : Target) → named_of xs t ≡ named_of ys t
-  named_same (target.Section k) = refl
-  named_same (target.Symbol k) = ap Symbolic (numbers k)
+  named_same t = grind arith
 
   pub residue_same : (w : Word) (p : Placement) (v : Valuation) (s at : ℕ) (r : Reloc) → residue_at w xs p v s at r ≡ residue_at w ys p v s at r
   unfolding residue_at

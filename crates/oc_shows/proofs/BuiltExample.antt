@@ -83,10 +83,7 @@ showable : AreShowable example [] all
 showable = record { word = refl; zeros = zeros; names = names; numbered = numbered }
   where
     zeros : (k : ℕ) (s : parts.Section) → slice_get (example.rules.sections []) k ≡ Some s → is_zero s.kind ≡ true → s.contents ≡ replicate s.size 0
-    zeros zero s here e = absurd (true≢false (sym (ap (λ (y : parts.Section). is_zero y.kind) (same_Some (section Data 1 (eight 1) None) s here) ∙ e)))
-    zeros (suc zero) s here e = absurd (true≢false (sym (ap (λ (y : parts.Section). is_zero y.kind) (same_Some (section Data 2 (eight 2) (Some (103 ∷ []))) s here) ∙ e)))
-    zeros (suc (suc zero)) s here e = subst (λ (y : parts.Section). y.contents ≡ replicate y.size 0) (same_Some (section Zero 3 (eight 0) None) s here) refl
-    zeros (suc (suc (suc k))) s here e = absurd (none-some s here)
+    zeros k s here e = grind arith
 
     names : (k number : ℕ) (s : parts.Symbol) → slice_get (weak ∷ global ∷ []) k ≡ Some s → s.binding ≡ Weak (fallback.Name number) → is_some (numbered_in_file (weak ∷ global ∷ []) number) ≡ true
     names zero number s here is =
@@ -222,8 +219,7 @@ each s at = by (eqb s 0) (eqb at 0) (eqb at 4) refl refl refl
     is-at s at = IsFree example [] all (given_by entries) s at ⊎ IsGiven example [] all start.object (given_by entries) s at
 
     none-kept : (c : Bool) → cond {A = Option Field} c None None ≡ None
-    none-kept true = refl
-    none-kept false = refl
+    none-kept c = grind arith
 
     by : (a b c : Bool) → eqb s 0 ≡ a → eqb at 0 ≡ b → eqb at 4 ≡ c → IsFree example [] all (given_by entries) s at ⊎ IsGiven example [] all start.object (given_by entries) s at
     by true true c g h i = subst (λ (j : ℕ). is-at j at) (sym (eqb-true s 0 g)) (subst (is-at 0) (sym (eqb-true at 0 h)) (inr (record {

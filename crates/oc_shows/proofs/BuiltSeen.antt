@@ -1,5 +1,5 @@
 -- What is given of the fields of a file is what the object shows of them.
-use Rattle.std.proofs.Common.{◌≡◌, ℕ, ◌+◌, ◌≤◌, ◌⊎◌, inl, inr, Bool, true, false, cond, List, map, Option, Some, None, refl, sym, ◌∙◌, ap, subst}
+use Rattle.std.proofs.Common.{◌≡◌, ℕ, ◌+◌, ◌≤◌, ◌⊎◌, inl, inr, Bool, true, false, cond, List, map, Option, Some, None, refl, sym, ◌∙◌, ap, subst, arith}
 use Rattle.std.specs.{Prelude.{not, if◌then◌else◌}, Option.{option_map, option_and_then, option_map_or}}
 use Rattle.std.proofs.lemmas.Option.{none-some, same_Some}
 use Rattle.oc_base.specs.{declared.format.Format.{Format}, declared.format.Word.{Word}, Formats.{word_for}}
@@ -20,8 +20,7 @@ pub named-left : (symbols : List Symbol) (t : Target) → named_of symbols (sect
 named-left symbols t = by (place_among symbols t)
   where
     by : (o : Option Place) → named_of symbols (section_for o t) ≡ option_map_or (λ (place : Place). Sectional place.0) o (named_of symbols t)
-    by None = refl
-    by (Some place) = refl
+    by o = grind arith
 
 -- a relocation that is a field is folded where the field is a difference, and has its look
 module _ (f : Dialect) (b : List ℕ) (keep : Keep) (n : Object) (s at : ℕ) (r : Reloc) (x : Field) (is : IsField f b keep n s at r x) where
@@ -126,8 +125,7 @@ module _ (f : Dialect) (b : List ℕ) (keep : Keep) (base n : Object) (given : R
     ]
       where
         of : (o : Option Reloc) → option_map (patch_of p v) (option_map (field_of n s at) o) ≡ option_map (patch_at (word_for n.format) n.symbols p v s at) o
-        of None = refl
-        of (Some q) = refl
+        of o = grind arith
 
     -- a patch is of a field that is given
     pub record IsOf (s at : ℕ) (q : Patch) : Type 0 where

@@ -1,8 +1,8 @@
 -- What a reader's loop cites: nothing is added yet, one entry more, and what stands against a step.
 use Rattle.std.proofs.Common.{◌≡◌, ◌≢◌, ℕ, ◌+◌, ◌≤◌, Bool, true, false, ◌&&◌, ◌||◌, cond, List, [], ◌∷◌, map, Some, None, Result, Ok, refl, sym, ◌∙◌, ap, subst, arith}
 use Rattle.std.specs.Prelude.{bytes_eq, nat_eq, nat_lt, not, slice_get, suc}
-use Rattle.std.proofs.lemmas.{Bool.{true≢false}, Bool.Decides.{nat_tests}, Slice.Eq.{bytes_eq-Decides}}
-use Rattle.oc_linking.specs.{declared.terms.Binding.{Binding}, declared.terms.Binding.TheVariants.{Local, Global, Undefined, Common, Weak}, Parts.{is_local}}
+use Rattle.std.proofs.lemmas.{Bool.{true≢false}, Slice.Eq.{bytes_eq-Decides}}
+use Rattle.oc_linking.specs.{declared.terms.Binding.{Binding}, Parts.{is_local}}
 use Rattle.oc_linking.specs.Parts as parts
 use Rattle.oc_chains.specs.Lists.{list_of}
 use Rattle.oc_neutral.specs.{declared.section.Section.{Section}, declared.reloc.Reloc.{Reloc}, declared.fault.BuildFault.{BuildFault}}
@@ -51,18 +51,11 @@ pub within : (sections : List Section) (x : Section) (sizes stored : ℕ) → si
 within sections x sizes stored e f size sum bytes = rw (e, f) (by (nat_lt 2147483647 x.size) (nat_lt 2147483648 (sizes + x.size)) (nat_lt 67108864 (stored + stored_size x)) refl refl refl)
   where
     by : (a b c : Bool) → nat_lt 2147483647 x.size ≡ a → nat_lt 2147483648 (sizes + x.size) ≡ b → nat_lt 67108864 (stored + stored_size x) ≡ c → limit_by sizes stored x ≡ None
-    by true b c p q r = absurd (true≢false (sym p ∙ grind (arith, nat_tests)))
-    by false true c p q r = absurd (true≢false (sym q ∙ grind (arith, nat_tests)))
-    by false false true p q r = absurd (true≢false (sym r ∙ grind (arith, nat_tests)))
-    by false false false p q r = rw (p, q, r) refl
+    by a b c p q r = grind arith
 
 -- a placed binding is Local where the file's is
 local-placed : (ys : List parts.Symbol) (b : Binding) → is_local (placed_binding ys b) ≡ is_local b
-local-placed ys (Local v) = refl
-local-placed ys (Global v) = refl
-local-placed ys Undefined = refl
-local-placed ys (Common size align) = refl
-local-placed ys (Weak f) = refl
+local-placed ys b = grind arith
 
 -- a symbol is not there again, where no nonlocal one before it has its name
 pub name_is_new : (all symbols : List parts.Symbol) (y : parts.Symbol)

@@ -123,8 +123,7 @@ module _ (base d : Draft) (given : RelocMap) (has : IsHolding base d given) wher
 
 -- the target of what is kept is no alias, where that of the relocation is none
 original-kept : (symbols : List Symbol) (t : Target) (o : Option Place) → NamesOriginal symbols t → NamesOriginal symbols (section_for o t)
-original-kept symbols t None is = is
-original-kept symbols t (Some place) is = tt
+original-kept symbols t o is = grind arith
 
 pub built_is_complete : BuiltIsComplete
 built_is_complete f b keep base d given start added complete final =

@@ -1,7 +1,7 @@
 -- A relocation is computed from its look and its residue where all numbers of a placement are 0.
 use Rattle.std.proofs.Common.{◌≡◌, ℕ, ◌+◌, ◌<◌, refl, sym, ◌∙◌, ap, arith}
 use Rattle.std.specs.{Prelude.{ℤ}, Option.{option_map, option_map_or, unwrap_or}}
-use Rattle.oc_base.specs.{declared.format.Word.{Word}, declared.format.Word.TheVariants.{W32, W64}, Formats.{word_for}}
+use Rattle.oc_base.specs.{declared.format.Word.{Word}, Formats.{word_for}}
 use Rattle.oc_linking.specs.{Numbers.{modulus, minus}, Placing.{zeros}, Values.{Valued, Valuation, worthless}}
 use Rattle.oc_algebra.specs.Residues.{residue_of, reduced_number, signed_of}
 use Rattle.oc_algebra.proofs.Laws.{residue_small}
@@ -14,8 +14,7 @@ use Rattle.oc_shows.proofs.PlacedSymbols.{target-placed}
 
 -- what is taken and what the value begins with lead back from the value
 value_back : (w : Word) (b l r : ℕ) → r < modulus w → minus w (minus w (b + r) l + l) b ≡ r
-value_back W32 b l r small = omega arith
-value_back W64 b l r small = omega arith
+value_back w b l r small = grind arith
 
 -- so does a reduced addend
 addend_back : (w : Word) (b l : ℕ) (a : ℤ) → reduced_number w a ≡ a → signed_of w (minus w (minus w (b + residue_of w a) l + l) b) ≡ a

@@ -3,8 +3,7 @@ use Rattle.std.proofs.Common.{◌≡◌, ℕ, zero, suc, ◌+◌, ◌<◌, ◌�
 use Rattle.std.specs.{Prelude.{bytes_eq, slice_get}, Option.{is_some, option_map, option_map_or, option_and_then}}
 use Rattle.std.proofs.lemmas.{Bool.{eq-eqb, ne_eqb, true≢false}, Option.{none-some, same_Some}, Slice.Eq.{bytes_eq-Decides}}
 use Rattle.oc_base.specs.declared.format.Word.{Word}
-use Rattle.oc_linking.specs.{declared.terms.Binding.{Binding}, declared.terms.Binding.TheVariants.{Local, Global, Undefined, Common, Weak}}
-use Rattle.oc_linking.specs.{declared.terms.Less.{Less}, declared.terms.Width.{Width}, declared.terms.Width.TheVariants.{One, Two, Four, Eight}, Fits.{span}}
+use Rattle.oc_linking.specs.{declared.terms.Binding.{Binding}, declared.terms.Less.{Less}, declared.terms.Width.{Width}, Fits.{span}}
 use Rattle.oc_linking.specs.declared.terms.Less.TheVariants as less
 use Rattle.oc_linking.specs.declared.terms.Value.TheVariants as value
 use Rattle.oc_algebra.specs.{Fields.{from_field_of, to_field_of}, Promises.{Holds}, Residues.{reduced_number}}
@@ -43,12 +42,7 @@ found_in p (y ∷ xs) follow (suc i) x h =
 -- ... what a field takes, and holds
 
 pub less_back : (l : Less) (t : Taken) (k : ℕ) → t ≡ taken_of l → same_taken t TakesSection ≡ false → rows.less_of t k ≡ l
-less_back less.Zero t k e lacks = ap (λ x. rows.less_of x k) e
-less_back less.Place t k e lacks = ap (λ x. rows.less_of x k) e
-less_back less.GotBase t k e lacks = ap (λ x. rows.less_of x k) e
-less_back less.ImageBase t k e lacks = ap (λ x. rows.less_of x k) e
-less_back less.Home t k e lacks = ap (λ x. rows.less_of x k) e
-less_back (less.Section j) t k e lacks = absurd (true≢false (ap (λ x. same_taken x TakesSection) (sym e) ∙ lacks))
+less_back l t k e lacks = grind arith
 
 -- what a field holds is the addend
 pub holds_addend : (w : Word) (k : Width) (shift a : ℤ) (F : ℕ) → to_field_of w k shift a ≡ Ok F → (F % span k ≡ F) × (from_field_of w k shift F ≡ reduced_number w a)
@@ -57,21 +51,13 @@ holds_addend w k shift a F e =
     (small k F law.0, law.1)
   where
     small : (k : Width) (F : ℕ) → F < span k → F % span k ≡ F
-    small One F low = omega (arith, low)
-    small Two F low = omega (arith, low)
-    small Four F low = omega (arith, low)
-    small Eight F low = omega (arith, low)
+    small k F low = grind arith
 
 -- ... places of symbols
 
 -- where the Global at a position is
 pub place_of_global : (n : Object) (b : Binding) (place : Place) → global_place b ≡ Some place → IsBinding n b → HasOffset n.sections place.0 place.1
-place_of_global n (Local v) place e own = absurd (none-some place e)
-place_of_global n (Global (value.Place k offset)) place e own = subst (λ (p : Place). HasOffset n.sections p.0 p.1) (same_Some (k, offset) place e) own
-place_of_global n (Global (value.Absolute a)) place e own = absurd (none-some place e)
-place_of_global n Undefined place e own = absurd (none-some place e)
-place_of_global n (Common size align) place e own = absurd (none-some place e)
-place_of_global n (Weak f) place e own = absurd (none-some place e)
+place_of_global n b place e own = grind arith
 
 -- ... names
 

@@ -1,6 +1,6 @@
 -- What is given for a file are its fields, each free or given.
-use Rattle.std.proofs.Common.{◌≡◌, ℕ, ◌⊎◌, inl, inr, true, List, Some, refl, sym, ◌∙◌, subst}
-use Rattle.std.proofs.lemmas.{Bool.{true≢false}, Option.{none-some, same_Some}}
+use Rattle.std.proofs.Common.{◌≡◌, ℕ, ◌⊎◌, true, List, Some, ◌∙◌, arith}
+use Rattle.std.proofs.lemmas.Bool.{true≢false}
 use Rattle.oc_linking.specs.{declared.terms.Base.{Base}, declared.terms.Keep.{Keep}, declared.terms.Less.{Less}, Rules.{Field}}
 use Rattle.oc_linking.specs.declared.terms.Base.TheVariants as base
 use Rattle.oc_linking.specs.declared.terms.Less.TheVariants as less
@@ -11,16 +11,7 @@ use Rattle.oc_shows.specs.Built.{AreOfFile, DifferencesFit, RelocMap, IsField, I
 
 -- what takes no section is no difference
 pub no_difference : (b : Base) (t : Target) (l : Less) → ((k : ℕ) → l ≡ less.Section k → ⊥) → cancels b t l ≡ true → ⊥
-no_difference base.Address (target.Section k) (less.Section j) none e = none j refl
-no_difference base.Address (target.Section k) less.Zero none e = true≢false (sym e)
-no_difference base.Address (target.Section k) less.Place none e = true≢false (sym e)
-no_difference base.Address (target.Section k) less.GotBase none e = true≢false (sym e)
-no_difference base.Address (target.Section k) less.ImageBase none e = true≢false (sym e)
-no_difference base.Address (target.Section k) less.Home none e = true≢false (sym e)
-no_difference base.Address (target.Symbol k) l none e = true≢false (sym e)
-no_difference base.Slot t l none e = true≢false (sym e)
-no_difference base.GotBase t l none e = true≢false (sym e)
-no_difference base.HomeNumber t l none e = true≢false (sym e)
+no_difference b t l none e = grind arith
 
 module _ (f : Dialect) (b : List ℕ) (keep : Keep) (n : Object) (given : RelocMap) (each : (s at : ℕ) → IsFree f b keep given s at ⊎ IsGiven f b keep n given s at) where
   -- what is given is a field
@@ -28,16 +19,14 @@ module _ (f : Dialect) (b : List ℕ) (keep : Keep) (n : Object) (given : RelocM
   are_of_file s at r e = by (each s at)
     where
       by : IsFree f b keep given s at ⊎ IsGiven f b keep n given s at → (x : Field) × (kept_fields f b keep s at ≡ Some x) × IsField f b keep n s at r x
-      by (inl m) = absurd (none-some r (sym m.none ∙ e))
-      by (inr m) = (m.field, m.here, subst (λ (q : Reloc). IsField f b keep n s at q m.field) (same_Some m.reloc r (sym m.there ∙ e)) m.is)
+      by x = grind arith
 
   -- each field is given
   pub field_given : (s at : ℕ) (x : Field) → kept_fields f b keep s at ≡ Some x → (r : Reloc) × (given s at ≡ Some r) × IsField f b keep n s at r x
   field_given s at x e = by (each s at)
     where
       by : IsFree f b keep given s at ⊎ IsGiven f b keep n given s at → (r : Reloc) × (given s at ≡ Some r) × IsField f b keep n s at r x
-      by (inl m) = absurd (none-some x (sym m.field ∙ e))
-      by (inr m) = (m.reloc, m.there, subst (λ (y : Field). IsField f b keep n s at m.reloc y) (same_Some m.field x (sym m.here ∙ e)) m.is)
+      by x = grind arith
 
   -- where none takes a section, none is a difference
   pub differences_fit : ((s at : ℕ) (r : Reloc) → given s at ≡ Some r → (k : ℕ) → r.form.less ≡ less.Section k → ⊥) → DifferencesFit f b keep

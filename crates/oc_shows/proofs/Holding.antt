@@ -161,8 +161,7 @@ module _ (base d : Draft) (given : RelocMap) (has : IsHolding base d given) (s a
       plain zs = ap (λ (o : Option ℕ). option_map_or (λ (n : ℕ). n) o 0) (slice_get-map stored_size zs s) ∙ by (slice_get zs s)
         where
           by : (o : Option Section) → option_map_or (λ (n : ℕ). n) (option_map stored_size o) 0 ≡ option_map_or stored_size o 0
-          by None = refl
-          by (Some z) = refl
+          by o = grind arith
 
   inside : at + bytes_of r.form.width ≤ stored_at base.object.sections s
   inside =
@@ -222,8 +221,7 @@ module _ (base d : Draft) (given : RelocMap) (has : IsHolding base d given) (s a
       (λ t x q here y n common. is.met t y n ∙ ap (λ c. (nat_eq t s && have_common at k y n) || c) (has.taken t x y n q here common) ∙ or_true (nat_eq t s && have_common at k y n))
     where
       or_true : (a : Bool) → (a || true) ≡ true
-      or_true true = refl
-      or_true false = refl
+      or_true a = grind arith
 
   met : (t y n : ℕ) → is_met e t y n ≡ true → IsMetBy more t y n
   met t y n is_true = elim (or_cases (nat_eq t s && have_common at k y n) (is_met d t y n) (sym (is.met t y n) ∙ is_true)) [

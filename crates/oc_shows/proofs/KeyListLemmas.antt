@@ -83,8 +83,7 @@ given_last : (keys : List (List ℕ)) (key : List ℕ) → is_given (keys ++ key
 given_last keys key = list_any-append (bytes_eq key) keys (key ∷ []) ∙ ap (λ b. is_given keys key || (b || false)) ((bytes_eq-Decides key key).1 refl) ∙ right (is_given keys key)
   where
     right : (b : Bool) → (b || true) ≡ true
-    right true = refl
-    right false = refl
+    right b = grind arith
 
 -- each begins where the first section has it
 pub keys_begin : (all before : List (List ℕ)) (xs : List (Option (List ℕ))) → all ≡ before ++ keys_after before xs

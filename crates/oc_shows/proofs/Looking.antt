@@ -1,17 +1,16 @@
 -- What linking sees of a relocation that was brought to its normal form: what a reader's loop compares with the file.
-use Rattle.std.proofs.Common.{◌≡◌, ℕ, refl, sym, ◌∙◌, ap, Bool, true, false, ◌&&◌, cond, eqb, true≢false, List, map, option_map, slice_get, Option, Some, None}
+use Rattle.std.proofs.Common.{◌≡◌, ℕ, refl, sym, ◌∙◌, ap, Bool, true, false, ◌&&◌, cond, eqb, true≢false, List, map, option_map, slice_get, Option, Some, None, arith}
 use Rattle.std.specs.Prelude.{nat_eq, if◌then◌else◌, ℤ}
 use Rattle.std.proofs.lemmas.{Bool.{eqb-true}, Option.{slice_get-map}}
 use Rattle.oc_base.specs.{declared.format.Word.{Word}, Formats.{word_for}}
-use Rattle.oc_linking.specs.{declared.terms.Patch.{Patch}, declared.terms.Binding.{Binding}}
-use Rattle.oc_linking.specs.{declared.terms.Binding.TheVariants.{Local, Global, Undefined, Common, Weak}, Placing.{Placement}, Values.{Valuation, fixed_site}}
-use Rattle.oc_linking.specs.{Fits.{fits}, Linking.{patch_of}, declared.terms.Base.{Base}, declared.terms.Less.{Less}}
+use Rattle.oc_linking.specs.{declared.terms.Patch.{Patch}, declared.terms.Binding.{Binding}, Placing.{Placement}, Values.{Valuation, fixed_site}, Fits.{fits}}
+use Rattle.oc_linking.specs.{Linking.{patch_of}, declared.terms.Base.{Base}, declared.terms.Less.{Less}}
 use Rattle.oc_linking.specs.Parts as parts
 use Rattle.oc_linking.specs.declared.terms.Base.TheVariants as base
 use Rattle.oc_algebra.specs.Folds.{low_of}
 use Rattle.oc_neutral.specs.{declared.symbol.Symbol.{Symbol}, declared.reloc.Target.{Target}, declared.reloc.Reloc.{Reloc}, declared.normal.Normal.{Normal}}
 use Rattle.oc_neutral.specs.{Objects.{Object, reloc_at}, Building.{Draft}, Normal.{place_among, cancels, normal_of}, Worth.{residue_at, IsTrueToLocals}}
-use Rattle.oc_neutral.specs.{Faces.{number_of, shown_binding, shown_symbol, named_of, field_of}, Dialects.{Look, less_in, target_by}}
+use Rattle.oc_neutral.specs.{Faces.{shown_binding, shown_symbol, named_of, field_of}, Dialects.{Look, less_in, target_by}}
 use Rattle.oc_neutral.specs.declared.reloc.Target.TheVariants as target
 use Rattle.oc_neutral.specs.declared.normal.Normal.TheVariants as normal
 use Rattle.oc_shows.specs.Shows.{patches_of, IsTrueToFixed}
@@ -24,14 +23,10 @@ folds symbols r = cancels r.form.base (section_for (place_among symbols r.target
 
 -- so says the name of the target too
 pub cancels-symbol : (b : Base) (k : ℕ) (l : Less) → cancels b (target.Symbol k) l ≡ false
-cancels-symbol base.Address k l = refl
-cancels-symbol base.Slot k l = refl
-cancels-symbol base.GotBase k l = refl
-cancels-symbol base.HomeNumber k l = refl
+cancels-symbol b k l = grind arith
 
 pub cancels-named : (symbols : List Symbol) (b : Base) (t : Target) (l : Less) → cancels b (target_by (named_of symbols t)) l ≡ cancels b t l
-cancels-named symbols b (target.Section k) l = refl
-cancels-named symbols b (target.Symbol k) l = cancels-symbol b (number_of symbols k) l ∙ sym (cancels-symbol b k l)
+cancels-named symbols b t l = grind arith
 
 -- the look that a relocation of section s has in its normal form
 abbrev pub normal_look : List Symbol → ℕ → Reloc → Look
@@ -50,18 +45,10 @@ patch_at w symbols p v s at r = record { width = r.form.width; check = r.form.ch
 
 -- a valuation that is true to the fixed symbols of an object is true to its Locals
 local_same : (symbols : List Symbol) (b : Binding) → parts.is_local (shown_binding symbols b) ≡ parts.is_local b
-local_same symbols (Local x) = refl
-local_same symbols (Global x) = refl
-local_same symbols Undefined = refl
-local_same symbols (Common size align) = refl
-local_same symbols (Weak f) = refl
+local_same symbols b = grind arith
 
 pub site_same : (w : Word) (p : Placement) (symbols : List Symbol) (b : Binding) → fixed_site w p (shown_binding symbols b) ≡ fixed_site w p b
-site_same w p symbols (Local x) = refl
-site_same w p symbols (Global x) = refl
-site_same w p symbols Undefined = refl
-site_same w p symbols (Common size align) = refl
-site_same w p symbols (Weak f) = refl
+site_same w p symbols b = grind arith
 
 pub true_to_locals : (w : Word) (symbols : List Symbol) (p : Placement) (v : Valuation) → IsTrueToFixed w (map (shown_symbol symbols) symbols) p v → IsTrueToLocals w symbols p v
 true_to_locals w symbols p v is = record {
@@ -141,8 +128,7 @@ module _ (d : Draft) (s at : ℕ) (r : Reloc) (e : Draft) (is : IsAdded d s at r
         patched n t x = of (reloc_at n t x)
           where
             of : (o : Option Reloc) → option_map (patch_of p v) (option_map (field_of n t x) o) ≡ option_map (patch_at (word_for n.format) n.symbols p v t x) o
-            of None = refl
-            of (Some q) = refl
+            of o = grind arith
 
         stays : option_map (patch_at (word_for d.object.format) d.object.symbols p v t x) (reloc_at d.object t x) ≡ patches_of d.object p v t x
         stays = sym (patched d.object t x)

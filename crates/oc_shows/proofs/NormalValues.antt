@@ -1,5 +1,5 @@
 -- The normal form of a relocation has its value.
-use Rattle.std.proofs.Common.{◌≡◌, ℕ, ◌+◌, ◌%◌, refl, sym, ◌∙◌, ap, Bool, true, false, cond, true≢false, List, slice_get, Option, Some, None}
+use Rattle.std.proofs.Common.{◌≡◌, ℕ, ◌+◌, ◌%◌, refl, sym, ◌∙◌, ap, Bool, true, false, cond, true≢false, List, slice_get, Option, Some, None, arith}
 use Rattle.std.specs.{Prelude.{ℤ, pos, ◌+ℤ◌}, Option.{option_map, option_and_then, unwrap_or}}
 use Rattle.std.proofs.lemmas.{Bool.{eqb-true}, Option.{none-some, same_Some}}
 use Rattle.std.proofs.Math.Nat.{mod-mod}
@@ -69,12 +69,7 @@ module _ (w : Word) (symbols : List Symbol) (p : Placement) (v : Valuation) (is_
 
   -- and what is taken is the same
   less-value : (s at : ℕ) (place : Place) (l : Less) → less_of p s at (target_worth symbols p v (target.Section place.0)) l ≡ less_of p s at (placed_worth w p place) l
-  less-value s at place less.Zero = refl
-  less-value s at place less.Place = refl
-  less-value s at place less.GotBase = refl
-  less-value s at place less.ImageBase = refl
-  less-value s at place less.Home = refl
-  less-value s at place (less.Section k) = refl
+  less-value s at place l = grind arith
 
   -- a relocation against a Local with a place has the value of the one against its section
   value-by_section : (s at : ℕ) (r : Reloc) → residue_at w symbols p v s at (by_section w symbols r) ≡ residue_at w symbols p v s at r

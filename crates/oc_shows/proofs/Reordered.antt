@@ -3,10 +3,9 @@ use Rattle.std.proofs.Common.{◌≡◌, ℕ, zero, suc, ◌+◌, false, List, [
 use Rattle.std.specs.{Prelude.{slice_get, bytes_eq}, Option.{option_map, option_map_or, unwrap_or}}
 use Rattle.std.proofs.lemmas.{Bool.{cases_lt}, Slice.Eq.{bytes_eq-Decides}, Option.{none-some, same_Some}}
 use Rattle.oc_base.specs.{declared.format.Word.{Word}, Formats.{word_for}}
-use Rattle.oc_linking.specs.{declared.terms.Binding.{Binding}, declared.terms.Binding.TheVariants.{Local, Global, Undefined, Common, Weak}}
-use Rattle.oc_linking.specs.{declared.terms.Patch.{Patch}, Parts.{is_local, by_name}, Placing.{Placement, Outside, DiscardsGroups}}
-use Rattle.oc_linking.specs.{Values.{Valuation, Valued, worthless, numbered, values}, Linking.{Export, export_at, export_of, exports, patch_of}}
-use Rattle.oc_linking.specs.{Numbers.{minus}, Faithful.{Sort, sort_of}, Shows.{object_patches}}
+use Rattle.oc_linking.specs.{declared.terms.Binding.{Binding}, declared.terms.Patch.{Patch}, Parts.{is_local, by_name}}
+use Rattle.oc_linking.specs.{Placing.{Placement, Outside, DiscardsGroups}, Values.{Valuation, Valued, worthless, numbered, values}}
+use Rattle.oc_linking.specs.{Linking.{Export, export_at, export_of, exports, patch_of}, Numbers.{minus}, Faithful.{Sort, sort_of}, Shows.{object_patches}}
 use Rattle.oc_linking.specs.Parts as parts
 use Rattle.oc_linking.proofs.{Naming.{GivenIn, Single, by_name_same}, Worth.{numbered-first, values-edited}}
 use Rattle.oc_algebra.specs.Residues.{residue_of}
@@ -29,26 +28,14 @@ of_map f (x ∷ xs) zero y here = (x, refl, same_Some (f x) y here)
 of_map f (x ∷ xs) (suc k) y here = of_map f xs k y here
 
 pub shown_local : (symbols : List Symbol) (b : Binding) → is_local (shown_binding symbols b) ≡ is_local b
-shown_local symbols (Local v) = refl
-shown_local symbols (Global v) = refl
-shown_local symbols Undefined = refl
-shown_local symbols (Common size align) = refl
-shown_local symbols (Weak f) = refl
+shown_local symbols b = grind arith
 
 -- what gives something is no Local
 sort_outer : (c : ℕ → ℕ → ℕ) (b : Binding) (x : Sort) → sort_of c b ≡ Some x → is_local b ≡ false
-sort_outer c (Local v) x e = absurd (none-some x e)
-sort_outer c (Global v) x e = refl
-sort_outer c Undefined x e = refl
-sort_outer c (Common size align) x e = refl
-sort_outer c (Weak f) x e = refl
+sort_outer c b x e = grind arith
 
 export_outer : (w : Word) (p : Placement) (e : Outside) (symbols : List parts.Symbol) (name : List ℕ) (b : Binding) (x : Export) → export_at w p e symbols name b ≡ Some x → is_local b ≡ false
-export_outer w p e symbols name (Local v) x h = absurd (none-some x h)
-export_outer w p e symbols name (Global v) x h = refl
-export_outer w p e symbols name Undefined x h = refl
-export_outer w p e symbols name (Common size align) x h = refl
-export_outer w p e symbols name (Weak f) x h = refl
+export_outer w p e symbols name b x h = grind arith
 
 module _ (m n : Object) (position : ℕ → ℕ) (move : Reloc → Reloc) (is : IsReordered m n position move) (distinct : AreDistinct n.symbols) where
   abbrev xs : List parts.Symbol

@@ -1,7 +1,7 @@
 -- Where the first repeat of a list of names ends, while they are judged one after the other.
-use Rattle.std.proofs.Common.{◌≡◌, ℕ, zero, suc, ◌+◌, ◌<◌, true, false, length, Option, None, Some, refl, sym, ◌∙◌, ap, arith, inl, inr}
+use Rattle.std.proofs.Common.{◌≡◌, ℕ, zero, suc, ◌+◌, ◌<◌, false, length, Option, None, Some, refl, sym, ◌∙◌, ap, arith, inl, inr}
 use Rattle.std.specs.{Prelude.{nat_eq}, Option.{is_some, option_and_then, option_map, option_map_or}}
-use Rattle.std.proofs.lemmas.{Bool.{cases_eq, cases_lt, eq-eqb, ne_eqb, true≢false}, Option.{none-some, same_Some}}
+use Rattle.std.proofs.lemmas.{Bool.{cases_eq, cases_lt, eq-eqb, ne_eqb, true≢false}, Option.{none-some}}
 use Rattle.oc_linking.specs.Numbers.{first_upto, or_else}
 use Rattle.oc_linking.proofs.FirstFaultLaws.{first_upto_none}
 use Rattle.oc_strings.specs.{declared.repeats.Repeat.{Repeat}, Repeats.{NameList, first_repeat, name_at, place_of, repeat_at}}
@@ -28,8 +28,7 @@ repeat_later : (names : NameList) (k : ℕ) (r : Repeat) → repeat_at names k �
 repeat_later names k r e = by (option_and_then (place_of names k) (name_at names k)) e
   where
     by : (o : Option ℕ) → option_map {U = Repeat} (λ place. record { earlier = place; later = k }) o ≡ Some r → r.later ≡ k
-    by None h = absurd (none-some r h)
-    by (Some place) h = ap (λ (x : Repeat). x.later) (sym (same_Some (record { earlier = place; later = k }) r h))
+    by o h = grind arith
 
 -- while no name before is a repeat, the first repeat ends at a name exactly where that stood before
 pub repeat_ends : (names : NameList) (found : Option Repeat) (k : ℕ) → found ≡ first_repeat names → k < length names → ((j : ℕ) → j < k → is_some (repeat_at names j) ≡ false)

@@ -2,7 +2,7 @@
 use Rattle.std.proofs.Common.{◌≡◌, ℕ, ◌+◌, ◌%◌, List, Option, Some, None, refl, sym, ◌∙◌, ap, subst, arith}
 use Rattle.std.specs.{Prelude.{ℤ, slice_get}, Option.{option_map, option_map_or, option_and_then, unwrap_or}}
 use Rattle.std.proofs.lemmas.Option.{none-some, same_Some, slice_get-map}
-use Rattle.oc_base.specs.{declared.format.Word.{Word}, declared.format.Word.TheVariants.{W32, W64}}
+use Rattle.oc_base.specs.declared.format.Word.{Word}
 use Rattle.oc_linking.specs.{declared.terms.Base.{Base}, declared.terms.Less.{Less}, declared.terms.Binding.{Binding}}
 use Rattle.oc_linking.specs.{declared.terms.Binding.TheVariants.{Local, Global, Undefined, Common, Weak}, declared.terms.Keep.{Keep}}
 use Rattle.oc_linking.specs.{Numbers.{minus, modulus, reduced}, Placing.{Placement}, Values.{Valued, place_site, worthless}, Rules.{Named, Symbolic, Sectional}}
@@ -41,16 +41,10 @@ module _ (w : Word) (p : Placement) (s at j offset : ℕ) where
   place = record { site = place_site w p j offset; slot = 0 }
 
   reduced_twice : (w : Word) (n : ℕ) → reduced w n % modulus w ≡ n % modulus w
-  reduced_twice W32 n = omega arith
-  reduced_twice W64 n = omega arith
+  reduced_twice w n = grind arith
 
   less-placed : (l : Less) → less_of p s at section l ≡ less_of p s at place l
-  less-placed less.Zero = refl
-  less-placed less.Place = refl
-  less-placed less.GotBase = refl
-  less-placed less.ImageBase = refl
-  less-placed less.Home = refl
-  less-placed (less.Section k) = refl
+  less-placed l = grind arith
 
   base-placed : (b : Base) (a : ℤ) (l : ℕ) → minus w (base_of p section b + residue_of w (moved_addend b a offset)) l ≡ minus w (base_of p place b + residue_of w a) l
   base-placed base.Address a l =
@@ -79,12 +73,7 @@ section_rows_are_fields f b keep n s at row k a j offset = record {
 
 -- what an entry names by a symbol, whether the symbol is the object's or is shown
 named-shown : (symbols : List Symbol) (number : ℕ) (b : Binding) → named_by number (shown_binding symbols b) ≡ named_by number b
-named-shown symbols number (Local (value.Place s offset)) = refl
-named-shown symbols number (Local (value.Absolute n)) = refl
-named-shown symbols number (Global v) = refl
-named-shown symbols number Undefined = refl
-named-shown symbols number (Common size align) = refl
-named-shown symbols number (Weak f) = refl
+named-shown symbols number b = grind arith
 
 -- the symbol at a position of the object is the file's target for the symbol there
 module _ (f : Dialect) (b : List ℕ) (keep : Keep) (n : Object) (j : ℕ) (y : parts.Symbol) (u : file.Target) (symbols : shown_symbols n ≡ f.rules.symbols b keep)
@@ -96,8 +85,7 @@ module _ (f : Dialect) (b : List ℕ) (keep : Keep) (n : Object) (j : ℕ) (y : 
   own = by (slice_get n.symbols j) refl shown-at
     where
       by : (o : Option Symbol) → slice_get n.symbols j ≡ o → option_map (shown_symbol n.symbols) o ≡ Some y → (x : Symbol) × (slice_get n.symbols j ≡ Some x) × (shown_symbol n.symbols x ≡ y)
-      by None there e = absurd (none-some y e)
-      by (Some x) there e = (x, there, same_Some (shown_symbol n.symbols x) y e)
+      by o there e = grind arith
 
   number_is : own.0.number ≡ y.number
   number_is = ap (λ (z : parts.Symbol). z.number) own.2

@@ -1,5 +1,5 @@
 -- The sections and the symbols that are seen of an object that was written are those of the object, in another order and with other numbers.
-use Rattle.std.proofs.Common.{◌≡◌, ℕ, zero, suc, ◌+◌, ◌<◌, Bool, true, false, cond, List, [], ◌∷◌, map, replicate, Option, Some, None, refl, sym, ◌∙◌, ap}
+use Rattle.std.proofs.Common.{◌≡◌, ℕ, zero, suc, ◌+◌, ◌<◌, Bool, true, false, cond, List, [], ◌∷◌, map, replicate, Option, Some, None, refl, sym, ◌∙◌, ap, arith}
 use Rattle.std.specs.{Prelude.{slice_get, nat_eq, filter_map}, List.{enumerate_from, cons_option}}
 use Rattle.std.specs.Option.{option_map, option_map_or, option_and_then, unwrap_or}
 use Rattle.std.proofs.lemmas.{Bool.{eq-eqb, ne_eqb, true≢false}, Option.{none-some, same_Some}}
@@ -85,11 +85,7 @@ module _ (m : Manner) (n : Object) (shown : List (ℕ × ℕ)) (is : IsShown n s
       (i.1.1, ap (slice_get again.symbols) (position_is i.0 i.1 k i.2 i.3) ∙ symbol_at i.0 i.1 s i.2 (ap (slice_get n.symbols) i.3 ∙ here))
 
   pub seen_local : (b : Binding) → is_local (seen_binding m n shown b) ≡ is_local b
-  seen_local (Local v) = refl
-  seen_local (Global v) = refl
-  seen_local Undefined = refl
-  seen_local (Common size align) = refl
-  seen_local (Weak f) = refl
+  seen_local b = grind arith
 
   -- and there are no others
   pub comes_from : (i : ℕ) (t : Symbol) → slice_get again.symbols i ≡ Some t → is_local t.binding ≡ false
@@ -118,8 +114,7 @@ module _ (m : Manner) (n : Object) (shown : List (ℕ × ℕ)) (is : IsShown n s
   among (x ∷ xs) at = by (nat_eq x.at at) (among xs at)
     where
       by : (b : Bool) → reloc_among (map (seen_field m n shown) xs) at ≡ option_map (seen_reloc m n shown) (reloc_among xs at) → cond b (Some (seen_reloc m n shown x.item)) (reloc_among (map (seen_field m n shown) xs) at) ≡ option_map (seen_reloc m n shown) (cond b (Some x.item) (reloc_among xs at))
-      by true later = refl
-      by false later = later
+      by b later = grind arith
 
   pub relocs_same : (lists : List (List (Field Reloc))) (s at : ℕ) → reloc_among (list_of (map (map (seen_field m n shown)) lists) s) at ≡ option_map (seen_reloc m n shown) (reloc_among (list_of lists s) at)
   relocs_same [] s at = refl
@@ -128,12 +123,7 @@ module _ (m : Manner) (n : Object) (shown : List (ℕ × ℕ)) (is : IsShown n s
 
 -- what has the place of a Global is one
 pub global_is : (b : Binding) (place : Place) → global_place b ≡ Some place → b ≡ Global (value.Place place.0 place.1)
-global_is (Global (value.Place s offset)) place h = ap (λ (q : Place). Global (value.Place q.0 q.1)) (same_Some (s, offset) place h)
-global_is (Global (value.Absolute x)) place h = absurd (none-some place h)
-global_is (Local v) place h = absurd (none-some place h)
-global_is Undefined place h = absurd (none-some place h)
-global_is (Common size align) place h = absurd (none-some place h)
-global_is (Weak f) place h = absurd (none-some place h)
+global_is b place h = grind arith
 
 -- what a fallback Name of a fitted object names: no Local, no Weak and no alias; where places are said, one whose place is in no group
 pub record IsNameable (m : Manner) (n : Object) (j : ℕ) : Type 0 where
@@ -160,11 +150,7 @@ module _ (m : Manner) (n : Object) (shown : List (ℕ × ℕ)) (is : IsShown n s
 
     -- a symbol that is not Weak has its binding
     strong_binding : (b : Binding) → ((f : Fallback) → b ≡ Weak f → ⊥) → shown_binding seen_one.symbols (seen_binding m n shown b) ≡ shown_binding n.symbols b
-    strong_binding (Local v) strong = refl
-    strong_binding (Global v) strong = refl
-    strong_binding Undefined strong = refl
-    strong_binding (Common size align) strong = refl
-    strong_binding (Weak f) strong = absurd (strong f refl)
+    strong_binding b strong = grind arith
 
     -- the number of a symbol at a position finds it
     own_number : (j : ℕ) (has : IsNameable m n j) → found_site (numbered (shown_symbols n) (number_of n.symbols j)) ≡ strong_site w p (e.site has.symbol.name) (shown_binding n.symbols has.symbol.binding)
@@ -217,8 +203,7 @@ module _ (m : Manner) (n : Object) (shown : List (ℕ × ℕ)) (is : IsShown n s
 
     -- where places are said, they are those of Globals
     place_from : (j : ℕ) (has : IsNameable m n j) (c : Bool) → m.places ≡ c → IsPlaced j has (cond c (place_at n j) None)
-    place_from j has true e place h = (e, global_is has.symbol.binding place (sym (ap (option_and_then (λ (s : Symbol). global_place s.binding)) has.there) ∙ h))
-    place_from j has false e place h = absurd (none-some place h)
+    place_from j has c e place h = grind arith
 
     -- a symbol that is not Local is worth what it was, and exports what it did
     value_same : (k number : ℕ) (s : Symbol) (b : Binding) → slice_get n.symbols k ≡ Some s → s.binding ≡ b → is_local b ≡ false
@@ -248,18 +233,10 @@ module _ (m : Manner) (n : Object) (shown : List (ℕ × ℕ)) (is : IsShown n s
         ∙ ap (λ (x : Site). Some (Address (unwrap_or (e.site s.name) x).address)) (site_same j has o (place_from j has m.places refl))
 
   sort_same : (b : Binding) → sort_of (λ size align. align) (shown_binding seen_one.symbols (seen_binding m n shown b)) ≡ sort_of (λ size align. align) (shown_binding n.symbols b)
-  sort_same (Local v) = refl
-  sort_same (Global v) = refl
-  sort_same Undefined = refl
-  sort_same (Common size align) = refl
-  sort_same (Weak f) = refl
+  sort_same b = grind arith
 
   local_same : (b : Binding) → is_local (shown_binding seen_one.symbols (seen_binding m n shown b)) ≡ is_local (shown_binding n.symbols b)
-  local_same (Local v) = refl
-  local_same (Global v) = refl
-  local_same Undefined = refl
-  local_same (Common size align) = refl
-  local_same (Weak f) = refl
+  local_same b = grind arith
 
   -- each is alike
   pub alike : (k number : ℕ) (s : Symbol) → slice_get n.symbols k ≡ Some s → is_local s.binding ≡ false → AreAlike seen_one n (seen_symbol m n shown number s) s

@@ -1,11 +1,11 @@
 -- The symbol table of each family shows each symbol once and every nonlocal, and has a bounded number of entries.
 use Rattle.std.proofs.Common.{◌≡◌, ℕ, zero, suc, ◌+◌, ◌*◌, ◌<◌, ◌≤◌, Bool, true, false, ◌&&◌, ◌||◌, cond, not, List, [], ◌∷◌, ◌++◌, length, map, Option, Some, None, refl, sym, ◌∙◌, ap, arith}
 use Rattle.std.specs.{Prelude.{slice_get, nat_eq, filter, flat_map}, List.{enumerate_from, list_any, range_with_len}, Option.{option_map_or, option_and_then}}
-use Rattle.std.proofs.lemmas.{Bool.{true≢false, eqb-true}, Option.{none-some, same_Some}, List.Sums.{count_by-le-length, length-filter}}
+use Rattle.std.proofs.lemmas.{Bool.{true≢false}, Option.{none-some, same_Some}, List.Sums.{count_by-le-length, length-filter}}
 use Rattle.std.proofs.lemmas.List.FromFn.{length-range_with_len}
 use Rattle.oc_base.specs.{declared.format.Word.{Word}, declared.format.Word.TheVariants.{W32, W64}}
 use Rattle.oc_linking.specs.declared.terms.Fallback.TheVariants as fallback
-use Rattle.oc_linking.specs.{declared.terms.Binding.{Binding}, declared.terms.Binding.TheVariants.{Local, Global, Undefined, Common, Weak}, Parts.{is_local}}
+use Rattle.oc_linking.specs.{declared.terms.Binding.{Binding}, Parts.{is_local}}
 use Rattle.oc_neutral.specs.{Bindings.{is_zero}, declared.group.Group.{Group}, declared.section.Section.{Section}, declared.symbol.Symbol.{Symbol}}
 use Rattle.oc_neutral.specs.{Objects.{Object}, Dressing.{is_common}, Normal.{Place}, KeySymbols.{global_place, group_at, is_key_name, is_key_at, is_key}}
 use Rattle.oc_neutral.specs.{WrittenSymbols.{is_written}, Mach.SectionSymbols.{needed_sections, needs_section_symbol}}
@@ -49,11 +49,7 @@ module _ (n : Object) where
   -- ... ELF
 
   outer_is : (b : Binding) → is_outer b ≡ true → is_local b ≡ false
-  outer_is (Local v) e = absurd (true≢false (sym e))
-  outer_is (Global v) e = refl
-  outer_is Undefined e = refl
-  outer_is (Common size align) e = refl
-  outer_is (Weak f) e = refl
+  outer_is b e = grind arith
 
   elf_covers : (s : Symbol) → is_local s.binding ≡ false → (is_kept s || is_outer s.binding) ≡ true
   elf_covers s outer = ap (λ b. (b && is_written n.format s) || not b) outer
@@ -76,8 +72,7 @@ module _ (n : Object) where
   key_place k s (Some place) b e = by (nat_eq place.0 k) refl e
     where
       by : (c : Bool) → nat_eq place.0 k ≡ c → (c && b) ≡ true → (q : Place) × (Some place ≡ Some q) × (q.0 ≡ k)
-      by true h e = (place, refl, eqb-true place.0 k h)
-      by false h e = absurd (true≢false (sym e))
+      by c h e = grind arith
 
   key_at : (k : ℕ) (s : Symbol) → is_key_at n k s ≡ true → (place : Place) × (global_place s.binding ≡ Some place) × (place.0 ≡ k)
   key_at k s e = key_place k s (global_place s.binding) (option_map_or (is_key_name n s.name) (group_at n k) false) e
@@ -94,11 +89,7 @@ module _ (n : Object) where
       ap (λ o. option_map_or (λ (place : Place). is_key_at n place.0 s) o false) a.1 ∙ ap (λ j. is_key_at n j s) a.2 ∙ e
 
   key_outer : (b : Binding) (place : Place) → global_place b ≡ Some place → is_local b ≡ false
-  key_outer (Local v) place e = absurd (none-some place e)
-  key_outer (Global v) place e = refl
-  key_outer Undefined place e = absurd (none-some place e)
-  key_outer (Common size align) place e = absurd (none-some place e)
-  key_outer (Weak f) place e = absurd (none-some place e)
+  key_outer b place e = grind arith
 
   -- it is the key symbol of some section from position i on
   abbrev any_key : ℕ → List Section → Symbol → Bool
@@ -118,8 +109,7 @@ module _ (n : Object) where
       by (is_key_at n i s) (let at : i + 1 + j ≡ i + suc j = omega arith in key_among (i + 1) j sections x s here (ap (λ k. is_key_at n k s) at ∙ e))
     where
       by : (b : Bool) → any_key (i + 1) sections s ≡ true → (b || any_key (i + 1) sections s) ≡ true
-      by true e = refl
-      by false e = e
+      by b e = grind arith
 
   keys : (i : ℕ) (sections : List Section) → IsPart n (any_key i sections) (2 * length sections) (flat_map (coff_section_lines n) (enumerate_from i sections))
   keys i [] = part_empty n
@@ -136,12 +126,10 @@ module _ (n : Object) where
   grouped_there k s e = by (slice_get n.sections k) refl (both (option_map_or (λ (place : Place). nat_eq place.0 k) (global_place s.binding) false) e)
     where
       both : (a : Bool) → (a && option_map_or (is_key_name n s.name) (group_at n k) false) ≡ true → option_map_or (is_key_name n s.name) (group_at n k) false ≡ true
-      both true e = e
-      both false e = absurd (true≢false (sym e))
+      both a e = grind arith
 
       by : (o : Option Section) → slice_get n.sections k ≡ o → option_map_or (is_key_name n s.name) (option_and_then (λ (y : Section). y.group) o) false ≡ true → (x : Section) × (o ≡ Some x)
-      by None h e = absurd (true≢false (sym e))
-      by (Some x) h e = (x, refl)
+      by o h e = grind arith
 
   key_any : (s : Symbol) → is_key n s ≡ true → any_key 0 n.sections s ≡ true
   key_any s e = by (global_place s.binding) e
@@ -161,13 +149,10 @@ module _ (n : Object) where
   rest_few s = by (is_weak_with (λ f. true) s.binding)
     where
       by : (b : Bool) → (0 < cond b 2 1) × (cond b 2 1 ≤ 2)
-      by true = (omega arith, omega arith)
-      by false = (omega arith, omega arith)
+      by b = grind arith
 
   rest_is : (b c : Bool) → (not b && not c) ≡ true → (b ≡ false) × (c ≡ false)
-  rest_is true c e = absurd (true≢false (sym e))
-  rest_is false true e = absurd (true≢false (sym e))
-  rest_is false false e = (refl, refl)
+  rest_is b c e = grind arith
 
   kept_apart : (s : Symbol) → is_kept s ≡ true → is_rest s ≡ true → ⊥
   kept_apart s kept e = absurd (true≢false (sym kept ∙ ap (λ b. b && is_written n.format s) (rest_is (is_local s.binding) (is_key n s) e).0))
@@ -184,8 +169,7 @@ module _ (n : Object) where
   coff_covers s outer = by (is_key n s) refl
     where
       or_true : (a : Bool) → (a || true) ≡ true
-      or_true true = refl
-      or_true false = refl
+      or_true a = grind arith
 
       by : (b : Bool) → is_key n s ≡ b → (any_key 0 n.sections s || (is_kept s || is_rest s)) ≡ true
       by true e = ap (λ a. a || (is_kept s || is_rest s)) (key_any s e)
@@ -209,41 +193,19 @@ module _ (n : Object) where
   is_open b = is_common b || is_weak_with is_zero b
 
   common_apart : (b : Binding) → is_common b ≡ true → is_weak_with is_zero b ≡ true → ⊥
-  common_apart (Local v) e f = absurd (true≢false (sym e))
-  common_apart (Global v) e f = absurd (true≢false (sym e))
-  common_apart Undefined e f = absurd (true≢false (sym e))
-  common_apart (Common size align) e f = absurd (true≢false (sym f))
-  common_apart (Weak g) e f = absurd (true≢false (sym e))
+  common_apart b e f = grind arith
 
   undefined_apart : (b : Binding) → is_undefined b ≡ true → is_open b ≡ true → ⊥
-  undefined_apart (Local v) e f = absurd (true≢false (sym e))
-  undefined_apart (Global v) e f = absurd (true≢false (sym e))
-  undefined_apart Undefined e f = absurd (true≢false (sym f))
-  undefined_apart (Common size align) e f = absurd (true≢false (sym e))
-  undefined_apart (Weak g) e f = absurd (true≢false (sym e))
+  undefined_apart b e f = grind arith
 
   defined_apart : (b : Binding) → is_defined b ≡ true → (is_undefined b || is_open b) ≡ true → ⊥
-  defined_apart (Local v) e f = absurd (true≢false (sym e))
-  defined_apart (Global v) e f = absurd (true≢false (sym f))
-  defined_apart Undefined e f = absurd (true≢false (sym e))
-  defined_apart (Common size align) e f = absurd (true≢false (sym e))
-  defined_apart (Weak g) e f = absurd (true≢false (sym e ∙ ap not f))
+  defined_apart b e f = grind arith
 
   mach_outer : (b : Binding) → (is_defined b || (is_undefined b || is_open b)) ≡ true → is_local b ≡ false
-  mach_outer (Local v) e = absurd (true≢false (sym e))
-  mach_outer (Global v) e = refl
-  mach_outer Undefined e = refl
-  mach_outer (Common size align) e = refl
-  mach_outer (Weak f) e = refl
+  mach_outer b e = grind arith
 
   mach_binding : (b : Binding) (w : Bool) → is_local b ≡ false → ((is_local b && w) || (is_defined b || (is_undefined b || is_open b))) ≡ true
-  mach_binding (Local v) w e = absurd (true≢false e)
-  mach_binding (Global v) w e = refl
-  mach_binding Undefined w e = refl
-  mach_binding (Common size align) w e = refl
-  mach_binding (Weak fallback.Zero) w e = refl
-  mach_binding (Weak (fallback.Place s offset)) w e = refl
-  mach_binding (Weak (fallback.Name k)) w e = refl
+  mach_binding b w e = grind arith
 
   abbrev mach_test : Symbol → Bool
   mach_test s = is_kept s || (is_defined s.binding || (is_undefined s.binding || is_open s.binding))
@@ -273,28 +235,16 @@ module _ (n : Object) where
 
   -- where there are no Weaks
   common_global : (b : Binding) → is_common b ≡ true → is_global b ≡ true → ⊥
-  common_global (Local v) e f = absurd (true≢false (sym e))
-  common_global (Global v) e f = absurd (true≢false (sym e))
-  common_global Undefined e f = absurd (true≢false (sym e))
-  common_global (Common size align) e f = absurd (true≢false (sym f))
-  common_global (Weak g) e f = absurd (true≢false (sym e))
+  common_global b e f = grind arith
 
   undefined_global : (b : Binding) → is_undefined b ≡ true → (is_common b || is_global b) ≡ true → ⊥
-  undefined_global (Local v) e f = absurd (true≢false (sym e))
-  undefined_global (Global v) e f = absurd (true≢false (sym e))
-  undefined_global Undefined e f = absurd (true≢false (sym f))
-  undefined_global (Common size align) e f = absurd (true≢false (sym e))
-  undefined_global (Weak g) e f = absurd (true≢false (sym e))
+  undefined_global b e f = grind arith
 
   abbrev omf_test : Symbol → Bool
   omf_test s = is_undefined s.binding || (is_common s.binding || is_global s.binding)
 
   omf_binding : (b : Binding) → is_local b ≡ false → is_weak_with (λ f. true) b ≡ false → (is_undefined b || (is_common b || is_global b)) ≡ true
-  omf_binding (Local v) e f = absurd (true≢false e)
-  omf_binding (Global v) e f = refl
-  omf_binding Undefined e f = refl
-  omf_binding (Common size align) e f = refl
-  omf_binding (Weak g) e f = absurd (true≢false f)
+  omf_binding b e f = grind arith
 
   pub omf_table : ((k : ℕ) (s : Symbol) → slice_get n.symbols k ≡ Some s → is_weak_with (λ f. true) s.binding ≡ false) → HasTable n 0 (omf_lines n)
   omf_table strong =

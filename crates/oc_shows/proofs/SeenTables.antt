@@ -115,12 +115,10 @@ module _ (n : Object) (a b : Symbol → Bool) (p q : ℕ) (xs ys : List Line) (f
       apart s.0 s.2 (ap b (same_Some s.0 t.0 (sym s.1 ∙ t.1)) ∙ t.2)
 
   first : (x y : Bool) → x ≡ true → (x || y) ≡ true
-  first true y e = refl
-  first false y e = absurd (true≢false (sym e))
+  first x y e = grind arith
 
   second : (x y : Bool) → y ≡ true → (x || y) ≡ true
-  second true y e = refl
-  second false y e = e
+  second x y e = grind arith
 
   counted : (symbols : List Symbol) → count_by either symbols ≡ count_by a symbols + count_by b symbols
   counted [] = omega arith
@@ -133,9 +131,7 @@ module _ (n : Object) (a b : Symbol → Bool) (p q : ℕ) (xs ys : List Line) (f
       omega (arith, all, these, those, e, f)
     where
       one : (x y : Bool) → a s ≡ x → b s ≡ y → cond (x || y) 1 0 ≡ cond x 1 0 + cond y 1 0
-      one true true e f = absurd (apart s e f)
-      one true false e f = omega arith
-      one false y e f = omega arith
+      one x y e f = grind arith
 
   shown : (i : ℕ) (l : Line) (k : ℕ) → slice_get (xs ++ ys) i ≡ Some l → l.shows ≡ Some k → (s : Symbol) × (slice_get n.symbols k ≡ Some s) × (either s ≡ true) × (0 < l.entries)
   shown i l k here shows = elim (in_either xs ys i l here) [
@@ -213,8 +209,7 @@ module _ (test : Symbol → Bool) (entries : Symbol → ℕ) (few : (s : Symbol)
 
     -- or does not
     there_not : test s ≡ false → (j : ℕ) (t : Symbol) → slice_get (s ∷ symbols) j ≡ Some t → test t ≡ true → (i : ℕ) × (l : Line) × (slice_get lines i ≡ Some l) × (l.shows ≡ Some (p + j))
-    there_not e zero t here passes = absurd (true≢false (sym passes ∙ ap test (sym (same_Some s t here)) ∙ e))
-    there_not e (suc j) t here passes = let l = later.there j t here passes in (l.0, l.1, l.2, l.3 ∙ ap Some (omega arith))
+    there_not e j t here passes = grind arith
 
   counted_one : (s : Symbol) (symbols : List Symbol) (b : Bool) → test s ≡ b → count_by test (s ∷ symbols) ≡ cond b 1 0 + count_by test symbols
   counted_one s symbols b e = sum_by-cons (λ x. cond (test x) 1 0) s symbols ∙ ap (λ c. cond c 1 0 + count_by test symbols) e

@@ -1,7 +1,7 @@
 -- An object that shows a file is the file's.
-use Rattle.std.proofs.Common.{◌≡◌, ℕ, ◌<◌, ◌≤◌, Bool, true, false, cond, List, [], ◌∷◌, length, map, Option, Some, None, refl, sym, ◌∙◌, ap, arith}
+use Rattle.std.proofs.Common.{◌≡◌, ℕ, ◌<◌, ◌≤◌, Bool, cond, List, [], ◌∷◌, length, map, Option, Some, None, refl, sym, ◌∙◌, ap, arith}
 use Rattle.std.specs.{Prelude.{bytes_eq, slice_get}, List.{AllByRecursion, enumerate_from, position_or_len}, Option.{option_map, option_and_then}}
-use Rattle.std.proofs.lemmas.{List.{length-map}, Option.{none-some, same_Some, slice_get-map, slice_get_within, get_or_from_slice_get}}
+use Rattle.std.proofs.lemmas.{List.{length-map}, Option.{same_Some, slice_get-map, slice_get_within, get_or_from_slice_get}}
 use Rattle.oc_base.specs.Formats.{word_for}
 use Rattle.oc_linking.specs.{declared.terms.Keep.{Keep}, declared.terms.Patch.{Patch}, Placing.{zeros}, Values.{Valuation}, Images.{Patches, overlay}}
 use Rattle.oc_linking.specs.{Linking.{patch_of}, Shows.{live_of, unders}}
@@ -26,8 +26,7 @@ frame-groups (x ∷ xs) = ap (λ gs. x.group ∷ gs) (frame-groups xs)
 
 -- what is live was there
 pub live_there : (folded : Bool) (o : Option Patch) (q : Patch) → live_of folded o ≡ Some q → o ≡ Some q
-live_there true o q here = absurd (none-some q here)
-live_there false o q here = here
+live_there folded o q here = grind arith
 
 module _ (f : Dialect) (b : List ℕ) (keep : Keep) (n : Object) (fine : IsObject n) (shows : Shows f b keep n) where
   -- the sections of the file

@@ -1,8 +1,8 @@
 -- What a Builder holds of a file before its relocations shows the file's sections and symbols.
-use Rattle.std.proofs.Common.{◌≡◌, ℕ, zero, suc, Bool, true, false, ◌||◌, cond, eqb, List, [], ◌∷◌, ◌++◌, append_assoc, map, replicate, Option, Some, None, Ok, refl, sym, ◌∙◌, ap, subst}
+use Rattle.std.proofs.Common.{◌≡◌, ℕ, zero, suc, Bool, true, false, ◌||◌, cond, eqb, List, [], ◌∷◌, ◌++◌, append_assoc, map, replicate, Option, Some, None, Ok, refl, sym, ◌∙◌, ap, subst, arith}
 use Rattle.std.specs.{Prelude.{bytes_eq, nat_eq, slice_get}, List.{find, list_any, position_or_len}}
 use Rattle.std.specs.Option.{is_some, option_map, option_map_or, option_and_then}
-use Rattle.std.proofs.lemmas.{Bool.{eqb-true, true≢false}, List.Folds.{find_at, list_any-append}, Option.{none-some, same_Some, slice_get-map}}
+use Rattle.std.proofs.lemmas.{Bool.{true≢false}, List.Folds.{find_at, list_any-append}, Option.{none-some, same_Some, slice_get-map}}
 use Rattle.std.proofs.lemmas.Slice.Eq.{bytes_eq-Decides}
 use Rattle.oc_base.specs.{declared.format.Format.{Format}, Strings.{is_given}}
 use Rattle.oc_linking.specs.declared.terms.Fallback.TheVariants as fallback
@@ -56,8 +56,7 @@ any-right : {X : Type 0} (test : X → Bool) (xs ys : List X) → list_any test 
 any-right test xs ys e = list_any-append test xs ys ∙ by (list_any test xs) (list_any test ys) e
   where
     by : (a c : Bool) → c ≡ true → (a || c) ≡ true
-    by true c e = refl
-    by false c e = e
+    by a c e = grind arith
 
 -- a key stands among those before, or begins
 key-begins : (before : List (List ℕ)) (keys : List (Option (List ℕ))) (k : ℕ) (key : List ℕ) → slice_get keys k ≡ Some (Some key) → is_given (before ++ keys_after before keys) key ≡ true
@@ -102,8 +101,7 @@ module _ (keys : List (List ℕ)) (s : parts.Section) (zeros : is_zero s.kind �
   contents-shown = by (is_zero s.kind) refl
     where
       by : (c : Bool) → is_zero s.kind ≡ c → cond c (replicate s.size 0) (cond c [] s.contents) ≡ s.contents
-      by true h = sym (zeros h)
-      by false h = refl
+      by c h = grind arith
 
   group-shown : option_and_then (key_of (groups_by keys)) (option_map (λ key. position_or_len (bytes_eq key) keys) s.group) ≡ s.group
   group-shown = by s.group refl
@@ -139,8 +137,7 @@ numbered-has [] number y here = absurd (none-some y here)
 numbered-has (z ∷ ys) number y here = by (eqb z.number number) refl here (numbered-has ys number y)
   where
     by : (c : Bool) → eqb z.number number ≡ c → cond c (Some z) (numbered ys number) ≡ Some y → (numbered ys number ≡ Some y → y.number ≡ number) → y.number ≡ number
-    by true h e rest = ap (λ (x : parts.Symbol). x.number) (sym (same_Some z y e)) ∙ eqb-true z.number number h
-    by false h e rest = rest e
+    by c h e rest = grind arith
 
 module _ (ys : List parts.Symbol) where
   -- the number at the position of a number

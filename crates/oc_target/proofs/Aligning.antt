@@ -81,31 +81,11 @@ align_is Omf align = omf_each IsAlign (0, omega arith, refl) (1, omega arith, re
 
 pub align_low : (target : Format) (align : ℕ) → output_align target align ≤ most_align target
 unfolding output_align
-align_low Elf32 align = power_low elf.ALIGN_BITS align
-align_low BigElf32 align = power_low elf.ALIGN_BITS align
-align_low Elf64 align = power_low elf.ALIGN_BITS align
-align_low BigElf64 align = power_low elf.ALIGN_BITS align
-align_low Coff32 align = power_low coff.ALIGN_BITS align
-align_low BigCoff32 align = power_low coff.ALIGN_BITS align
-align_low Coff64 align = power_low coff.ALIGN_BITS align
-align_low BigCoff64 align = power_low coff.ALIGN_BITS align
-align_low Mac32 align = power_low 15 align
-align_low Mac64 align = power_low 15 align
-align_low Omf align = omf_each (λ a. a ≤ 256) (omega arith) (omega arith) (omega arith) (omega arith) (omega arith) align
+align_low target align = grind arith
 
 pub align_twice : (target : Format) (align : ℕ) → output_align target (output_align target align) ≡ output_align target align
 unfolding output_align
-align_twice Elf32 align = power_twice elf.ALIGN_BITS align
-align_twice BigElf32 align = power_twice elf.ALIGN_BITS align
-align_twice Elf64 align = power_twice elf.ALIGN_BITS align
-align_twice BigElf64 align = power_twice elf.ALIGN_BITS align
-align_twice Coff32 align = power_twice coff.ALIGN_BITS align
-align_twice BigCoff32 align = power_twice coff.ALIGN_BITS align
-align_twice Coff64 align = power_twice coff.ALIGN_BITS align
-align_twice BigCoff64 align = power_twice coff.ALIGN_BITS align
-align_twice Mac32 align = power_twice 15 align
-align_twice Mac64 align = power_twice 15 align
-align_twice Omf align = omf_each (λ a. omf_of a ≡ a) refl refl refl refl refl align
+align_twice target align = grind arith
 
 -- the alignment of a common in a target
 pub common_is : (target : Format) (size align : ℕ) → IsAlign align → IsAlign (common_align target size align)
@@ -124,17 +104,7 @@ common_is Omf size align is = power_is 5 size (omega arith)
 
 common_twice : (target : Format) (size align : ℕ) → common_align target size (common_align target size align) ≡ common_align target size align
 unfolding common_align
-common_twice Elf32 size align = refl
-common_twice BigElf32 size align = refl
-common_twice Elf64 size align = refl
-common_twice BigElf64 size align = refl
-common_twice Mac32 size align = refl
-common_twice Mac64 size align = refl
-common_twice Coff32 size align = refl
-common_twice BigCoff32 size align = refl
-common_twice Coff64 size align = refl
-common_twice BigCoff64 size align = refl
-common_twice Omf size align = refl
+common_twice target size align = grind arith
 
 -- a binding in a target is its own there
 pub binding_twice : (target : Format) (b : Binding) → fitted_binding target (fitted_binding target b) ≡ fitted_binding target b

@@ -3,7 +3,7 @@ use Rattle.std.proofs.Common.{◌≡◌, ℕ, ◌+◌, ◌<◌, ◌≤◌, List,
 use Rattle.std.specs.List.{enumerate_from}
 use Rattle.std.proofs.lemmas.{List.{length-append, length-take-le, set-get_or}, Option.{get_or_from_slice_get, slice_get-get_or}}
 use Rattle.oc_base.specs.declared.format.Format.{Format}
-use Rattle.oc_linking.specs.{declared.terms.Binding.{Binding}, declared.terms.Binding.TheVariants.{Local, Global, Undefined, Common, Weak}}
+use Rattle.oc_linking.specs.{declared.terms.Binding.{Binding}, declared.terms.Binding.TheVariants.{Common}}
 use Rattle.oc_neutral.specs.{declared.section.Section.{Section}, declared.symbol.Symbol.{Symbol}, Alignments.{common_align, output_align}}
 use Rattle.oc_neutral.specs.Dressing.{aligned_among, aligned_binding, aligned_symbol, dressed, dressed_among, dressed_section, realigned}
 use Rattle.oc_neutral.specs.{HomeNames.{output_tag}, Invariants.{IsAlign, IsBinding, IsObject, IsSymbol}, Objects.{Object}}
@@ -105,11 +105,7 @@ module _ (target : Format) (n : Object) where
 
 -- a binding that is no common is its own in a target
 pub other_binding : (target : Format) (b : Binding) → ((size align : ℕ) → b ≡ Common size align → ⊥) → fitted_binding target b ≡ b
-other_binding target (Common size align) other = absurd (other size align refl)
-other_binding target (Local v) other = refl
-other_binding target (Global v) other = refl
-other_binding target Undefined other = refl
-other_binding target (Weak f) other = refl
+other_binding target b other = grind arith
 
 -- a map that does not look at positions
 pub map_any : {X Y : Type 0} (f : X → Y) (i : ℕ) (xs : List X) → map (λ (x : ℕ × X). f x.1) (enumerate_from i xs) ≡ map f xs

@@ -2,12 +2,11 @@
 use Rattle.std.proofs.Common.{◌≡◌, ℕ, ◌+◌, ◌^◌, ◌<◌, ◌≤◌, Bool, true, false, List, map, Some, refl, sym, ◌∙◌, ap, subst, arith}
 use mathlib.Core.Path.{fun_ext}
 use Rattle.std.specs.{Prelude.{not, ◌&&◌}, Option.{option_map, option_map_or}}
-use Rattle.std.proofs.lemmas.{Bool.Decides.{nat_tests}, Bool.{true≢false, and_parts}}
+use Rattle.std.proofs.lemmas.Bool.{true≢false, and_parts}
 use Rattle.oc_base.specs.{declared.format.Format.{Format}, declared.format.Format.TheVariants.{Mac64}, declared.format.Word.{Word}}
 use Rattle.oc_base.specs.{declared.format.Word.TheVariants.{W32, W64}, Formats.{word_for}}
-use Rattle.oc_linking.specs.{declared.terms.Width.{Width}, declared.terms.Width.TheVariants.{One, Two, Four, Eight}, declared.terms.Check.{Check}}
-use Rattle.oc_linking.specs.{declared.terms.Check.TheVariants.{Wrap, Signed, Unsigned, Either}, declared.terms.Patch.{Patch}, Fits.{bytes_of, fits}}
-use Rattle.oc_linking.specs.{Placing.{Placement, Outside}, Values.{Valuation, values}, Images.{Patches, overlays, emptied, overflows}}
+use Rattle.oc_linking.specs.{declared.terms.Width.{Width}, declared.terms.Width.TheVariants.{Eight}, declared.terms.Check.{Check}, declared.terms.Patch.{Patch}}
+use Rattle.oc_linking.specs.{Fits.{bytes_of, fits}, Placing.{Placement, Outside}, Values.{Valuation, values}, Images.{Patches, overlays, emptied, overflows}}
 use Rattle.oc_linking.specs.{Linking.{patch_of, link_of, exports}, Shows.{Apart, lives, unders}}
 use Rattle.oc_linking.specs.Shows as linking
 use Rattle.oc_linking.proofs.{Overlay.{emptied-overlays}, Alike.{link_of_folded}}
@@ -22,10 +21,7 @@ use Rattle.oc_neutral.proofs.{Standing.{ends_by, wide}, Mapped.{from_mapped}}
 
 -- a residue of 64 bits fits eight bytes by every check
 eight_bytes_fit : (check : Check) (r : ℕ) → r < 2 ^ 64 → fits W64 Eight check r ≡ true
-eight_bytes_fit Wrap r l = refl
-eight_bytes_fit Signed r l = grind (arith, nat_tests)
-eight_bytes_fit Unsigned r l = grind (arith, nat_tests)
-eight_bytes_fit Either r l = grind (arith, nat_tests)
+eight_bytes_fit check r l = grind arith
 
 -- a residue is one of its word
 below : (w : Word) (n : Object) (p : Placement) (v : Valuation) (s at : ℕ) (r : Reloc) → w ≡ W64 → residue_at w n.symbols p v s at r < 2 ^ 64
@@ -43,10 +39,7 @@ word_of_mac64 format h = absurd (true≢false (sym h))
 
 -- a width of eight bytes
 width_of_eight : (width : Width) → is_eight width ≡ true → width ≡ Eight
-width_of_eight One h = absurd (true≢false (sym h))
-width_of_eight Two h = absurd (true≢false (sym h))
-width_of_eight Four h = absurd (true≢false (sym h))
-width_of_eight Eight h = refl
+width_of_eight width h = grind arith
 
 -- so it fits eight bytes
 fit_of : (w : Word) (width : Width) (check : Check) (x : ℕ) → w ≡ W64 → width ≡ Eight → (w ≡ W64 → x < 2 ^ 64) → not (fits w width check x) ≡ false

@@ -1,8 +1,8 @@
 -- Where a symbol is the key symbol of a group, and what it is called there.
-use Rattle.std.proofs.Common.{◌≡◌, refl, ℕ, suc, ◌&&◌, ◌||◌, Bool, true, false, cond, List, [], ◌∷◌, map, Some, None, ◌∙◌, ap, sym, arith}
+use Rattle.std.proofs.Common.{◌≡◌, refl, ℕ, suc, ◌&&◌, ◌||◌, Bool, true, false, cond, List, [], ◌∷◌, map, Some, ◌∙◌, ap, sym, arith}
 use Rattle.std.specs.{Prelude.{nat_eq, slice_get, filter, bytes_eq}, List.{list_any}, Option.{option_map_or, option_and_then}}
-use Rattle.std.proofs.lemmas.{Bool.{and_parts, eqb-true, eq-eqb, false_from_ne_true}, Option.{none-some, same_Some}, Slice.Eq.{bytes_eq-Decides}}
-use Rattle.oc_linking.specs.{declared.terms.Binding.{Binding}, declared.terms.Binding.TheVariants.{Local, Global, Undefined, Common, Weak}, Parts.{is_local}}
+use Rattle.std.proofs.lemmas.{Bool.{and_parts, eqb-true, false_from_ne_true}, Option.{same_Some}, Slice.Eq.{bytes_eq-Decides}}
+use Rattle.oc_linking.specs.{declared.terms.Binding.{Binding}, Parts.{is_local}}
 use Rattle.oc_neutral.specs.{declared.symbol.Symbol.{Symbol}, Objects.{Object}, Faces.{key_of}, Invariants.{AreDistinct}}
 use Rattle.oc_neutral.specs.{KeySymbols.{global_place, group_at, is_key_name, is_key_at}, Normal.{Place}}
 use Rattle.oc_target.proofs.MeetsParts.{some_passes}
@@ -12,10 +12,7 @@ pub either_way : (a b : ℕ) → nat_eq a b ≡ nat_eq b a
 either_way a b = by (nat_eq a b) (nat_eq b a) refl refl
   where
     by : (s t : Bool) → nat_eq a b ≡ s → nat_eq b a ≡ t → s ≡ t
-    by true true e f = refl
-    by true false e f = sym (eq-eqb b a (sym (eqb-true a b e))) ∙ f
-    by false true e f = sym e ∙ eq-eqb a b (sym (eqb-true b a f))
-    by false false e f = refl
+    by s t e f = grind arith
 
 -- the name is the key of the group of section k
 abbrev pub is_key_in : Object → ℕ → List ℕ → Bool
@@ -34,17 +31,9 @@ pub key_at_place : (n : Object) (k : ℕ) (s : Symbol) (place : Place) → globa
 key_at_place n k s place here =
     ap (λ o. option_map_or (λ (p : Place). nat_eq p.0 k) o false && is_key_in n k s.name) here ∙ at_same place.0 k (λ j. is_key_in n j s.name)
 
--- nor where it has no place
-pub key_nowhere : (n : Object) (k : ℕ) (s : Symbol) → global_place s.binding ≡ None → is_key_at n k s ≡ false
-key_nowhere n k s none = ap (λ o. option_map_or (λ (p : Place). nat_eq p.0 k) o false && is_key_in n k s.name) none
-
 -- what is placed is no Local
 placed_nonlocal : (b : Binding) (place : Place) → global_place b ≡ Some place → is_local b ≡ false
-placed_nonlocal (Local v) place e = absurd (none-some place e)
-placed_nonlocal (Global v) place e = refl
-placed_nonlocal Undefined place e = absurd (none-some place e)
-placed_nonlocal (Common size align) place e = absurd (none-some place e)
-placed_nonlocal (Weak f) place e = absurd (none-some place e)
+placed_nonlocal b place e = grind arith
 
 -- a key symbol at section k is not Local, and is called as the key of the section's group
 record KeyFound (n : Object) (k : ℕ) (s : Symbol) : Type 0 where

@@ -22,15 +22,7 @@ abbrev kind_by : ℕ → Kind
 kind_by n = get_or (Code ∷ ReadOnly ∷ Data ∷ Zero ∷ Init ∷ Fini ∷ Debug ∷ Exception ∷ []) n Note
 
 kind_back : (k : Kind) → kind_by (kind_number k) ≡ k
-kind_back Code = refl
-kind_back ReadOnly = refl
-kind_back Data = refl
-kind_back Zero = refl
-kind_back Init = refl
-kind_back Fini = refl
-kind_back Debug = refl
-kind_back Exception = refl
-kind_back Note = refl
+kind_back k = grind arith
 
 -- kinds that are the same are one
 pub kind_is : (k l : Kind) → same_kind k l ≡ true → k ≡ l

@@ -45,12 +45,7 @@ target_there n k (target.Section j) there e = subst (λ i. i < length n.sections
 target_there n k (target.Symbol j) there e = absurd (true≢false (sym e))
 
 less_there : (n : Object) (k : ℕ) (l : Less) → IsLessThere n l → takes_section k l ≡ true → k < length n.sections
-less_there n k (less.Section j) there e = subst (λ i. i < length n.sections) (eqb-true j k e) there
-less_there n k less.Zero there e = absurd (true≢false (sym e))
-less_there n k less.Place there e = absurd (true≢false (sym e))
-less_there n k less.GotBase there e = absurd (true≢false (sym e))
-less_there n k less.ImageBase there e = absurd (true≢false (sym e))
-less_there n k less.Home there e = absurd (true≢false (sym e))
+less_there n k l there e = grind arith
 
 -- a relocation that stays has the symbols of the sections that it names
 pub needed_there : (n : Object) (s at : ℕ) (r : Reloc) (x : Section) → reloc_at n s at ≡ Some r → slice_get n.sections s ≡ Some x → IsNormal n s r → is_stored Mac64 s r ≡ false

@@ -1,14 +1,13 @@
 -- Every object that is ready for OMF meets what its writer uses.
-use Rattle.std.proofs.Common.{◌≡◌, ℕ, zero, suc, ◌+◌, false, ◌&&◌, length, Option, Some, None, refl, sym, ◌∙◌, ap, subst}
+use Rattle.std.proofs.Common.{◌≡◌, ℕ, ◌+◌, false, ◌&&◌, length, Option, Some, None, refl, sym, ◌∙◌, ap, subst, arith}
 use Rattle.std.specs.{Prelude.{slice_get, nat_le, nat_lt, not, count_by, find, is_err}, Option.{unwrap_or}}
-use Rattle.std.proofs.lemmas.{Bool.{true≢false}, Option.{none-some, same_Some}}
+use Rattle.std.proofs.lemmas.Bool.{true≢false}
 use Rattle.oc_base.specs.{declared.format.Format.TheVariants.{Omf}, declared.format.Word.TheVariants.{W32}}
 use Rattle.oc_linking.specs.declared.terms.Width.TheVariants.{Four}
 use Rattle.oc_algebra.specs.Fields.{to_field_of}
 use Rattle.oc_neutral.specs.{Bindings.{is_external}, Powers.{natural_align}, Omf.Family.{omf_aligns}, declared.section.Section.{Section}}
 use Rattle.oc_neutral.specs.{declared.symbol.Symbol.{Symbol}, declared.reloc.Reloc.{Reloc}, Alignments.{output_align}, Objects.{Object, reloc_at}}
-use Rattle.oc_neutral.specs.{Omf.Relocs.{FixupFrame, ByFlat, ByTarget, BySelf, fixup_row}, RelocTables.{rows_of}, Rows.{Row}}
-use Rattle.oc_neutral.specs.TargetSections.{is_debug_kept, section_conditions}
+use Rattle.oc_neutral.specs.{Omf.Relocs.{FixupFrame, fixup_row}, RelocTables.{rows_of}, Rows.{Row}, TargetSections.{is_debug_kept, section_conditions}}
 use Rattle.oc_neutral.specs.TargetSymbols.{is_absolute_form, is_common_form, is_weak_form, symbol_conditions}
 use Rattle.oc_target.specs.{Fitted.{fitted_binding, IsFitted}, Meets.{MeetsReloc}, OmfMeets.{OmfSection, OmfSymbol, OmfReloc, FittedMeetsOmf}}
 use Rattle.oc_target.proofs.{MeetsCoff.{natural, align_same, fitted_common}, MeetsConditions.{not_below, section_count_met, section_met, symbol_met}}
@@ -27,10 +26,7 @@ own_align align e = by (find (nat_le align) omf_aligns) refl e
 
 -- a row of the table is that of a fixup
 framed_row : (k : ℕ) (row : Row) → slice_get (rows_of Omf) k ≡ Some row → (framed : FixupFrame) × (fixup_row framed ≡ row)
-framed_row zero row h = (ByFlat, same_Some _ row h)
-framed_row (suc zero) row h = (ByTarget, same_Some _ row h)
-framed_row (suc (suc zero)) row h = (BySelf, same_Some _ row h)
-framed_row (suc (suc (suc k))) row h = absurd (none-some row h)
+framed_row k row h = grind arith
 
 module _ (n : Object) (fits : IsFitted Omf n) where
   section : (k : ℕ) (s : Section) → slice_get n.sections k ≡ Some s → OmfSection s

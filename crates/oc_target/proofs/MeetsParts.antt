@@ -4,8 +4,8 @@ use Rattle.std.specs.{Prelude.{slice_get, nat_eq, pos, is_none}, List.{list_any}
 use Rattle.std.proofs.lemmas.{Bool.{true≢false, and_parts, eqb-true, cases_lt, or_parts, not-false}, Slice.Eq.{bytes_eq-Decides}}
 use Rattle.std.proofs.Math.Pow.{pow_mono}
 use Rattle.oc_base.specs.{declared.format.Format.{Format}, declared.format.Format.TheVariants.{Mac64}}
-use Rattle.oc_linking.specs.{declared.terms.Kind.{Kind}, declared.terms.Kind.TheVariants.{Code, ReadOnly, Data, Zero, Init, Fini, Debug, Exception, Note}}
-use Rattle.oc_linking.specs.{declared.terms.Less.{Less}, declared.terms.Base.{Base}, declared.terms.Base.TheVariants.{Address, Slot, GotBase, HomeNumber}}
+use Rattle.oc_linking.specs.{declared.terms.Kind.{Kind}, declared.terms.Kind.TheVariants.{Zero}, declared.terms.Less.{Less}, declared.terms.Base.{Base}}
+use Rattle.oc_linking.specs.declared.terms.Base.TheVariants.{Address, Slot, GotBase, HomeNumber}
 use Rattle.oc_linking.specs.declared.terms.Fallback.TheVariants as fallback
 use Rattle.oc_algebra.specs.declared.form.Form.{Form}
 use Rattle.oc_neutral.specs.{Tests.{is_cut, is_steady, is_unsteady_name}, KindRules.{has_nul}, declared.section.Section.{Section}}
@@ -89,15 +89,7 @@ power most align rises is low = elim (cases_lt most is.0) [
 
 -- a section whose kind is Zero
 pub zero_kind : (kind : Kind) → is_zero kind ≡ true → kind ≡ Zero
-zero_kind Zero e = refl
-zero_kind Code e = absurd (true≢false (sym e))
-zero_kind ReadOnly e = absurd (true≢false (sym e))
-zero_kind Data e = absurd (true≢false (sym e))
-zero_kind Init e = absurd (true≢false (sym e))
-zero_kind Fini e = absurd (true≢false (sym e))
-zero_kind Debug e = absurd (true≢false (sym e))
-zero_kind Exception e = absurd (true≢false (sym e))
-zero_kind Note e = absurd (true≢false (sym e))
+zero_kind kind e = grind arith
 
 -- a section has all its bytes, where its kind is not Zero
 pub all_bytes : (s : Section) → HasItsBytes s → (s.kind ≡ Zero → ⊥) → length s.bytes ≡ s.size
@@ -120,7 +112,4 @@ pub only_address : (form : Form) → needs_slot form ≡ false → same_base for
 only_address form slot home = by form.base (or_parts _ _ slot).0 (or_parts _ _ slot).1 home
   where
     by : (b : Base) → same_base b Slot ≡ false → same_base b GotBase ≡ false → same_base b HomeNumber ≡ false → b ≡ Address
-    by Address x y z = refl
-    by Slot x y z = absurd (true≢false x)
-    by GotBase x y z = absurd (true≢false y)
-    by HomeNumber x y z = absurd (true≢false z)
+    by b x y z = grind arith

@@ -3,8 +3,7 @@ use Rattle.std.proofs.Common.{◌≡◌, ℕ, zero, suc, ◌<◌, Bool, true, fa
 use Rattle.std.specs.{Prelude.{slice_get, is_none, is_err}, List.{AllByRecursion}, Option.{option_map, option_map_or, option_and_then}}
 use Rattle.std.proofs.lemmas.{Bool.{true≢false, or_parts}, Option.{none-some}}
 use Rattle.oc_base.specs.{declared.format.Format.{Format}, Formats.{word_for}}
-use Rattle.oc_linking.specs.{Fits.{bytes_of}, declared.terms.Binding.{Binding}, declared.terms.Binding.TheVariants.{Local, Global, Undefined, Common, Weak}}
-use Rattle.oc_linking.specs.Parts.{is_local}
+use Rattle.oc_linking.specs.{Fits.{bytes_of}, declared.terms.Binding.{Binding}, Parts.{is_local}}
 use Rattle.oc_linking.specs.declared.terms.Value.TheVariants as value
 use Rattle.oc_chains.specs.{declared.field.Field.{Field}, Lists.{Lists, list_of}}
 use Rattle.oc_algebra.specs.Fields.{to_field_of}
@@ -53,12 +52,7 @@ normal_of n is s at r here = let f = field_of n is s at r here in subst (IsNorma
 
 -- a binding of a target that has no place as a Local, and is no Local number
 outer_binding : (b : Binding) → is_local_number b ≡ false → local_place b ≡ None → is_local b ≡ false
-outer_binding (Local (value.Place s offset)) number place = absurd (none-some _ (sym place))
-outer_binding (Local (value.Absolute x)) number place = absurd (true≢false number)
-outer_binding (Global v) number place = refl
-outer_binding Undefined number place = refl
-outer_binding (Common size align) number place = refl
-outer_binding (Weak f) number place = refl
+outer_binding b number place = grind arith
 
 -- what a test of a target says of the symbol
 target_test : (n : Object) (test : Binding → Bool) (t : Target) (k : ℕ) (x : Symbol) → t ≡ target.Symbol k → slice_get n.symbols k ≡ Some x → is_target n test t ≡ test x.binding

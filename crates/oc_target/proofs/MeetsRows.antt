@@ -1,5 +1,5 @@
 -- The row that is written for a form means that form, and stands in the table.
-use Rattle.std.proofs.Common.{◌≡◌, ℕ, suc, Bool, true, false, cond, List, [], ◌∷◌, map, Option, Some, None, inl, inr, refl, sym, ◌∙◌, ap, subst}
+use Rattle.std.proofs.Common.{◌≡◌, ℕ, suc, Bool, true, false, cond, List, [], ◌∷◌, map, Option, Some, None, inl, inr, refl, sym, ◌∙◌, ap, subst, arith}
 use Rattle.std.specs.Prelude.{◌⊎◌, slice_get, find}
 use Rattle.std.proofs.lemmas.{Bool.{true≢false, and_parts}, Option.{none-some, same_Some}}
 use Rattle.oc_base.specs.{declared.format.Format.{Format}, declared.format.Format.TheVariants.{Elf32, Elf64, Mac32, Mac64, BigElf32, BigElf64}}
@@ -11,46 +11,26 @@ use Rattle.oc_linking.specs.declared.terms.Less.TheVariants as less
 use Rattle.oc_algebra.specs.declared.form.Form.{Form}
 use Rattle.oc_target.specs.Meets.{has_calls, IsTakenBy, IsRowFor}
 use Rattle.oc_neutral.specs.RelocTables.{rows_of}
-use Rattle.oc_neutral.specs.Rows.{Row, Taken, TakesZero, TakesPlace, TakesGotBase, TakesImageBase, TakesHome, TakesSection, taken_of, same_width, same_check, same_base, same_taken, same_hint}
+use Rattle.oc_neutral.specs.Rows.{Row, Taken, TakesPlace, TakesSection, taken_of, same_width, same_check, same_base, same_taken, same_hint}
 use Rattle.oc_neutral.specs.Spelling.{is_written, row_taking, written_row}
 use Rattle.oc_neutral.proofs.Positions.{images_same}
 
 -- ... tests that decide
 
 pub width_is : (a b : Width) → same_width a b ≡ true → a ≡ b
-width_is One One e = refl
-width_is Two Two e = refl
-width_is Four Four e = refl
-width_is Eight Eight e = refl
-width_is a b e = absurd (true≢false (sym e))
+width_is a b e = grind arith
 
 check_is : (a b : Check) → same_check a b ≡ true → a ≡ b
-check_is Wrap Wrap e = refl
-check_is Signed Signed e = refl
-check_is Unsigned Unsigned e = refl
-check_is Either Either e = refl
-check_is a b e = absurd (true≢false (sym e))
+check_is a b e = grind arith
 
 base_is : (a b : Base) → same_base a b ≡ true → a ≡ b
-base_is Address Address e = refl
-base_is Slot Slot e = refl
-base_is GotBase GotBase e = refl
-base_is HomeNumber HomeNumber e = refl
-base_is a b e = absurd (true≢false (sym e))
+base_is a b e = grind arith
 
 pub taken_is : (a b : Taken) → same_taken a b ≡ true → a ≡ b
-taken_is TakesZero TakesZero e = refl
-taken_is TakesPlace TakesPlace e = refl
-taken_is TakesGotBase TakesGotBase e = refl
-taken_is TakesImageBase TakesImageBase e = refl
-taken_is TakesHome TakesHome e = refl
-taken_is TakesSection TakesSection e = refl
-taken_is a b e = absurd (true≢false (sym e))
+taken_is a b e = grind arith
 
 hint_is : (a b : Hint) → same_hint a b ≡ true → a ≡ b
-hint_is Plain Plain e = refl
-hint_is Call Call e = refl
-hint_is a b e = absurd (true≢false (sym e))
+hint_is a b e = grind arith
 
 -- ... facts of tables
 
@@ -81,12 +61,7 @@ pub record IsFoundRow (format : Format) (form : Form) (wanted : Hint) (t : Taken
 
 -- the place alone is taken so
 place_alone : (l : Less) → same_taken (taken_of l) TakesPlace ≡ true → l ≡ less.Place
-place_alone less.Zero e = absurd (true≢false (sym e))
-place_alone less.Place e = refl
-place_alone less.GotBase e = absurd (true≢false (sym e))
-place_alone less.ImageBase e = absurd (true≢false (sym e))
-place_alone less.Home e = absurd (true≢false (sym e))
-place_alone (less.Section k) e = absurd (true≢false (sym e))
+place_alone l e = grind arith
 
 -- the form of four bytes that are called
 abbrev call_form : Check → Form

@@ -1,7 +1,7 @@
 -- Where the names of sections stand among the names that are given.
 use Rattle.std.proofs.Common.{◌≡◌, refl, ℕ, zero, suc, ◌+◌, ◌<◌, ◌≤◌, ◌&&◌, Bool, true, false, List, [], ◌∷◌, ◌++◌, map, Option, Some, None, ◌∙◌, ap, sym, get_or, arith}
 use Rattle.std.specs.{Prelude.{slice_get, take, nat_lt, min, ◌^◌, ◌-◌}, Option.{option_map, option_map_or, option_and_then, unwrap_or}}
-use Rattle.std.proofs.lemmas.{Bool.{ltb-true, ltb-false, lt-ltb, le-ltb}, Option.{none-some, same_Some, slice_get-map}}
+use Rattle.std.proofs.lemmas.{Bool.{ltb-true, ltb-false, lt-ltb, le-ltb}, Option.{none-some, slice_get-map}}
 use Rattle.oc_base.specs.Strings.{table_place}
 use Rattle.oc_strings.specs.Tables.{capped, offset_of}
 use Rattle.oc_linking.specs.declared.terms.Value.{Value}
@@ -65,9 +65,7 @@ offset_in given name = unwrap_or (table_place 4 given name) 0
 
 -- an offset that is there is the name's
 offset_there : (found : Option ℕ) (place : Option ℕ) → option_map Some found ≡ Some (option_map capped place) → option_map_or is_far found false ≡ is_far (unwrap_or place 0)
-offset_there None place e = absurd (none-some (option_map capped place) e)
-offset_there (Some o) None e = absurd (none-some o (sym (same_Some (Some o) None e)))
-offset_there (Some o) (Some t) e = ap is_far (same_Some o (capped t) (same_Some (Some o) (Some (capped t)) e)) ∙ far_capped t
+offset_there found place e = grind arith
 
 far_there : (given : List (List ℕ)) (offsets : List ℕ) → map Some offsets ≡ map (offset_of 4 given) given → (name : List ℕ) (place : Option ℕ) → HasPlace given name place
     → is_far_at offsets place ≡ (is_tabled name && is_far (offset_in given name))

@@ -1,5 +1,5 @@
 -- Symbols whose commons get a target's alignments are worth the same, export the same and have the same names.
-use Rattle.std.proofs.Common.{◌≡◌, ℕ, Bool, true, false, cond, List, [], ◌∷◌, map, Option, Some, None, refl, ◌∙◌, ap}
+use Rattle.std.proofs.Common.{◌≡◌, ℕ, Bool, true, false, cond, List, [], ◌∷◌, map, Option, Some, None, refl, ◌∙◌, ap, arith}
 use mathlib.Core.Path.{fun_ext}
 use Rattle.std.specs.{Prelude.{eqb, slice_get, bytes_eq}, Option.{option_map, option_map_or, unwrap_or}}
 use Rattle.std.proofs.lemmas.Option.{slice_get-map}
@@ -73,20 +73,12 @@ module _ (target : Format) where
       ∙ ap (or_else (cond (bytes_eq s.name name) (sort_of (common_align target) s.binding) None)) (names-refit symbols name)
     where
       sort : (b : Binding) → sort_of (λ size align. align) (fitted_binding target b) ≡ sort_of (common_align target) b
-      sort (Local v) = refl
-      sort (Global v) = refl
-      sort Undefined = refl
-      sort (Common size align) = refl
-      sort (Weak f) = refl
+      sort b = grind arith
 
   module _ (w : Word) (p : Placement) (e : Outside) where
     -- a symbol that is not Weak has the same site
     strong-refit : (x : Option Site) (b : Binding) → strong_site w p x (fitted_binding target b) ≡ strong_site w p x b
-    strong-refit x (Local v) = refl
-    strong-refit x (Global v) = refl
-    strong-refit x Undefined = refl
-    strong-refit x (Common size align) = refl
-    strong-refit x (Weak f) = refl
+    strong-refit x b = grind arith
 
     -- so has a fallback
     fall-refit : (symbols : List parts.Symbol) (f : Fallback) → fallback_site w p e (map (refit target) symbols) f ≡ fallback_site w p e symbols f
@@ -111,11 +103,7 @@ module _ (target : Format) where
 
     -- a symbol stays Local, or not
     local-refit : (b : Binding) → parts.is_local (fitted_binding target b) ≡ parts.is_local b
-    local-refit (Local v) = refl
-    local-refit (Global v) = refl
-    local-refit Undefined = refl
-    local-refit (Common size align) = refl
-    local-refit (Weak f) = refl
+    local-refit b = grind arith
 
     -- every symbol is worth the same
     value-refit : (symbols : List parts.Symbol) (s : parts.Symbol) → value_of w p e (map (refit target) symbols) (refit target s) ≡ value_of w p e symbols s

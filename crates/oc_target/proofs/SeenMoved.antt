@@ -1,6 +1,6 @@
 -- What is seen of an object that was written looks like the object: each relocation has its value, against a symbol at its new position, or against
 -- the section of a Global.
-use Rattle.std.proofs.Common.{◌≡◌, ℕ, ◌+◌, Bool, true, false, cond, List, Option, Some, None, refl, sym, ◌∙◌, ap}
+use Rattle.std.proofs.Common.{◌≡◌, ℕ, ◌+◌, Bool, true, false, cond, List, Option, Some, None, refl, sym, ◌∙◌, ap, arith}
 use Rattle.std.specs.{Prelude.{slice_get, ℤ}, Option.{option_map, option_and_then, unwrap_or}}
 use Rattle.std.proofs.lemmas.Option.{none-some, same_Some}
 use Rattle.std.proofs.Math.Nat.{mod-mod}
@@ -36,12 +36,7 @@ module _ (w : Word) (p : Placement) (s at : ℕ) (place : Place) (slot : ℕ) wh
   global_worth = record { site = place_site w p place.0 place.1; slot = slot }
 
   less_same : (l : Less) → less_of p s at section_worth l ≡ less_of p s at global_worth l
-  less_same less.Zero = refl
-  less_same less.Place = refl
-  less_same less.GotBase = refl
-  less_same less.ImageBase = refl
-  less_same less.Home = refl
-  less_same (less.Section k) = refl
+  less_same l = grind arith
 
   pub section_value : (b : Base) → b ≡ base.Address → (a : ℤ) (l : Less) → minus w (base_of p section_worth b + residue_of w (reduced_number w (moved_addend b a place.1))) (less_of p s at section_worth l)
       ≡ minus w (base_of p global_worth b + residue_of w a) (less_of p s at global_worth l)

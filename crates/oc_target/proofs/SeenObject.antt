@@ -99,18 +99,10 @@ module _ (m : Manner) (n : Object) (shown : List (ℕ × ℕ)) (fine : IsObject 
   value_there (value.Absolute x) small = small
 
   strong_outer : (b : Binding) → is_strong b ≡ true → is_local b ≡ false
-  strong_outer (Local v) e = absurd (true≢false (sym e))
-  strong_outer (Global v) e = refl
-  strong_outer Undefined e = refl
-  strong_outer (Common size align) e = refl
-  strong_outer (Weak f) e = refl
+  strong_outer b e = grind arith
 
   strong_same : (b : Binding) → is_strong (seen_binding m n shown b) ≡ is_strong b
-  strong_same (Local v) = refl
-  strong_same (Global v) = refl
-  strong_same Undefined = refl
-  strong_same (Common size align) = refl
-  strong_same (Weak f) = refl
+  strong_same b = grind arith
 
   -- a Name stays one, of a symbol at its new position, or is a place
   name_there : (k : ℕ) → IsFallback n (fallback.Name k) → IsFallback seen_again (fallback.Name (new_position shown k))

@@ -7,7 +7,7 @@ use Rattle.oc_base.specs.{declared.format.Format.{Format}, declared.format.Forma
 use Rattle.oc_base.specs.{declared.format.Word.TheVariants.{W32, W64}, Formats.{word_for}}
 use Rattle.oc_linking.specs.{declared.terms.Hint.{Hint}, declared.terms.Hint.TheVariants.{Call}, declared.terms.Base.TheVariants.{Address}}
 use Rattle.oc_linking.specs.{declared.terms.Less.{Less}, declared.terms.Fallback.{Fallback}, declared.terms.Binding.{Binding}}
-use Rattle.oc_linking.specs.{declared.terms.Binding.TheVariants.{Local, Global, Undefined, Common, Weak}, Numbers.{modulus}, Parts.{is_local}}
+use Rattle.oc_linking.specs.{declared.terms.Binding.TheVariants.{Weak}, Numbers.{modulus}, Parts.{is_local}}
 use Rattle.oc_linking.specs.declared.terms.Fallback.TheVariants as fallback
 use Rattle.oc_chains.specs.{declared.field.Field.{Field}, Lists.{list_of}}
 use Rattle.oc_neutral.specs.{declared.section.Section.{Section}, declared.symbol.Symbol.{Symbol}, declared.reloc.Reloc.{Reloc}, Objects.{Object, reloc_at}}
@@ -53,11 +53,7 @@ module _ (n : Object) (fine : IsObject n) where
   not_weak b strong f e = true≢false (sym strong ∙ ap is_strong e)
 
   not_local : (b : Binding) → is_strong b ≡ true → is_local b ≡ false
-  not_local (Local v) e = absurd (true≢false (sym e))
-  not_local (Global v) e = refl
-  not_local Undefined e = refl
-  not_local (Common size align) e = refl
-  not_local (Weak f) e = refl
+  not_local b e = grind arith
 
   -- a fallback Name can be said, where a Global whose place is said is in no group
   nameable : (m : Manner) → (m.places ≡ true → (k j : ℕ) (s : Symbol) → slice_get n.symbols k ≡ Some s → s.binding ≡ Weak (fallback.Name j) → IsSteadyAt n j)
@@ -108,11 +104,7 @@ module _ (n : Object) (fine : IsObject n) where
 -- ... ELF
 
 elf_small : (n : Object) (b : Binding) (size : ℕ) → IsBinding n b → size < modulus (word_for n.format) → elf_size b size < modulus (word_for n.format)
-elf_small n (Local v) size there l = l
-elf_small n (Global v) size there l = l
-elf_small n Undefined size there l = l
-elf_small n (Common own align) size there l = there.0
-elf_small n (Weak f) size there l = l
+elf_small n b size there l = grind arith
 
 pub elf_ready : (format : Format) (n : Object) → IsObject n → MeetsElf format n → IsReady elf_manner n
 elf_ready format n fine meets =
@@ -186,11 +178,7 @@ omf_ready n fine meets =
     }
   where
     strong : (b : Binding) → ((f : Fallback) → b ≡ Weak f → ⊥) → is_weak_with (λ f. true) b ≡ false
-    strong (Local v) never = refl
-    strong (Global v) never = refl
-    strong Undefined never = refl
-    strong (Common size align) never = refl
-    strong (Weak f) never = absurd (never f refl)
+    strong b never = grind arith
 
 mach_sectional : (format : Format) (w : Word) (n : Object) (fine : IsObject n) (meets : MeetsMach format n) → (w ≡ W32 → AreAddresses format)
     → (s at : ℕ) (r : Reloc) (place : Place) → reloc_at n s at ≡ Some r → section_place (mach_manner w) n r ≡ Some place → IsSectional n r place

@@ -4,8 +4,7 @@ use Rattle.std.specs.{Prelude.{slice_get}, List.{AllByRecursion, enumerate_from}
 use Rattle.std.proofs.lemmas.{Bool.{true≢false, eq-eqb, ne_eqb}, List.{length-map}, List.FromFn.{length-enumerate_from}, Option.{none-some, slice_get_within}}
 use Rattle.oc_base.specs.Formats.{word_for}
 use Rattle.oc_linking.specs.{declared.terms.Base.{Base}, declared.terms.Hint.{Hint}, declared.terms.Hint.TheVariants.{Call}, declared.terms.Less.{Less}}
-use Rattle.oc_linking.specs.{declared.terms.Binding.{Binding}, declared.terms.Binding.TheVariants.{Local, Global, Undefined, Common, Weak}, Parts.{is_local}}
-use Rattle.oc_linking.specs.{Fits.{bytes_of}, declared.terms.Width.TheVariants.{Four}}
+use Rattle.oc_linking.specs.{declared.terms.Binding.{Binding}, Parts.{is_local}, Fits.{bytes_of}, declared.terms.Width.TheVariants.{Four}}
 use Rattle.oc_linking.specs.declared.terms.Base.TheVariants as base
 use Rattle.oc_linking.specs.declared.terms.Less.TheVariants as less
 use Rattle.oc_algebra.specs.Residues.{reduced_number}
@@ -38,23 +37,11 @@ own_offsets p (x ∷ xs) follow = (
 
 -- the address of a section is not taken from it, where it is not taken
 cancels_not : (b : Base) (k : ℕ) (l : Less) → takes_section k l ≡ false → cancels b (target.Section k) l ≡ false
-cancels_not base.Address k less.Zero e = refl
-cancels_not base.Address k less.Place e = refl
-cancels_not base.Address k less.GotBase e = refl
-cancels_not base.Address k less.ImageBase e = refl
-cancels_not base.Address k less.Home e = refl
-cancels_not base.Address k (less.Section j) e = ne_eqb k j (λ same. true≢false (sym (eq-eqb j k (sym same)) ∙ e))
-cancels_not base.Slot k l e = refl
-cancels_not base.GotBase k l e = refl
-cancels_not base.HomeNumber k l e = refl
+cancels_not b k l e = grind arith
 
 -- a symbol that is no Local has no place of one
 outer_place : (b : Binding) → is_local b ≡ false → local_place b ≡ None
-outer_place (Local v) e = absurd (true≢false e)
-outer_place (Global v) e = refl
-outer_place Undefined e = refl
-outer_place (Common size align) e = refl
-outer_place (Weak f) e = refl
+outer_place b e = grind arith
 
 module _ (m : Manner) (n : Object) (shown : List (ℕ × ℕ)) (fine : IsObject n) (is : IsShown n shown)
     (calls : (h : Hint) → m.hint h ≡ Call → h ≡ Call)

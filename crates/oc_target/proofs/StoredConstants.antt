@@ -2,10 +2,10 @@
 use Rattle.std.proofs.Common.{◌≡◌, ℕ, ◌+◌, ◌≤◌, Bool, true, false, cond, List, Option, Some, None, refl, sym, ◌∙◌, ap, subst, arith}
 use mathlib.Core.Path.{fun_ext}
 use Rattle.std.specs.{Prelude.{ℤ, ◌&&◌, not, slice_get}, Option.{option_map, option_map_or, option_and_then}}
-use Rattle.std.proofs.lemmas.{Bool.{eqb-true, true≢false, and_parts}, Option.{none-some, same_Some}}
+use Rattle.std.proofs.lemmas.Bool.{eqb-true, true≢false, and_parts}
 use Rattle.oc_base.specs.{declared.format.Format.{Format}, declared.format.Word.{Word}, declared.format.Word.TheVariants.{W32, W64}, Formats.{word_for}}
 use Rattle.oc_linking.specs.{declared.terms.Base.{Base}, declared.terms.Less.{Less}, declared.terms.Patch.{Patch}, Numbers.{minus}, Placing.{Placement, Site}}
-use Rattle.oc_linking.specs.{Values.{Valuation, Valued}, Fits.{bytes_of}, Images.{overlay}, Linking.{patch_of}, Shows.{Apart, blank, under_of, live_of, unders}}
+use Rattle.oc_linking.specs.{Values.{Valuation, Valued}, Fits.{bytes_of}, Images.{overlay}, Linking.{patch_of}, Shows.{Apart, under_of, live_of, unders}}
 use Rattle.oc_linking.specs.declared.terms.Base.TheVariants as base
 use Rattle.oc_linking.specs.declared.terms.Less.TheVariants as less
 use Rattle.oc_linking.proofs.Folding.{overlay_folded}
@@ -52,22 +52,15 @@ stored_residue target n p v s at r stored =
 
 -- what stands under all fields, under those that are not stored, and in those that are
 under_both : (stored : Bool) (o : Option Patch) → under_of (not stored) (under_of stored o) ≡ under_of false o
-under_both true None = refl
-under_both true (Some q) = refl
-under_both false None = refl
-under_both false (Some q) = refl
+under_both stored o = grind arith
 
 -- those that are stored
 live_stored : (stored : Bool) (o : Option Patch) → live_of (not stored) (under_of stored o) ≡ cond stored o None
-live_stored true None = refl
-live_stored true (Some q) = refl
-live_stored false o = refl
+live_stored stored o = grind arith
 
 -- what stands under fields is as wide as they are
 under_wide : (stored : Bool) (o : Option Patch) (q : Patch) → under_of stored o ≡ Some q → (p : Patch) × (o ≡ Some p) × (p.width ≡ q.width)
-under_wide stored None q here = absurd (none-some q here)
-under_wide true (Some p) q here = (p, refl, ap (λ (x : Patch). x.width) (same_Some p q here))
-under_wide false (Some p) q here = (p, refl, ap (λ (x : Patch). x.width) (same_Some (blank p) q here))
+under_wide stored o q here = grind arith
 
 module _ (target : Format) (n : Object) (is : IsObject n) (p : Placement) (v : Valuation) (s : ℕ) where
   -- what stands under the fields of section s
