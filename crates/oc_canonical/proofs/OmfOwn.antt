@@ -5,7 +5,7 @@ use Rattle.std.specs.{Prelude.{slice_get}, List.{AllByRecursion, enumerate_from,
 use Rattle.std.specs.Option.{option_map, option_map_or, option_and_then, unwrap_or}
 use Rattle.std.proofs.lemmas.Option.{none-some, same_Some, slice_get-map}
 use Rattle.oc_linking.specs.{declared.terms.Kind.{Kind}, declared.terms.Keep.{Keep}, declared.terms.Patch.{Patch}, Images.{overlay}, Keeping.{all, keeps}}
-use Rattle.oc_linking.specs.{Linking.{flags_in}, Shows.{unders}, Fits.{bytes_of}, Placing.{zeros}, Linking.{patch_of}}
+use Rattle.oc_linking.specs.{Linking.{flags_in, patch_of}, Shows.{unders}, Fits.{bytes_of}, Placing.{zeros}}
 use Rattle.oc_linking.specs.Parts as parts
 use Rattle.oc_base.specs.{Formats.{word_for}, declared.format.Format.TheVariants.{Omf}}
 use Rattle.oc_chains.specs.declared.field.Field.{Field}

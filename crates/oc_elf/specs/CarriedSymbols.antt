@@ -5,7 +5,7 @@ use Rattle.oc_linking.specs.{declared.terms.Binding.TheVariants.{Local, Global, 
 use Rattle.oc_linking.specs.declared.terms.Value.TheVariants as value
 use Rattle.oc_linking.specs.declared.terms.Fallback.TheVariants as fallback
 use Rattle.oc_shelf.specs.Reading.Collected.{collected, position_in}
-use Rattle.oc_elf.specs.{declared.constants.TheConstants.{SHN_LORESERVE}, declared.constants.TheConstants.{SHN_UNDEF, SHN_ABS, SHN_COMMON, STB_WEAK, STT_FILE}}
+use Rattle.oc_elf.specs.declared.constants.TheConstants.{SHN_LORESERVE, SHN_UNDEF, SHN_ABS, SHN_COMMON, STB_WEAK, STT_FILE}
 use Rattle.oc_elf.specs.{declared.sym.Sym.{Sym}, Sym.{bind_of, type_of}, Frames.{FileFrame}, Tables.{symbol_count, entry_of}}
 use Rattle.oc_elf.specs.{Entries.{name_of, is_local_entry, is_section_symbol, mark_of, visibility_of}, CarriedSections.{position_of}}
 

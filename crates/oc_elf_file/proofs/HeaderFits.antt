@@ -1,5 +1,5 @@
 -- The numbers in the headers of a canonical file fit their widths.
-use Rattle.oc_elf.specs.{Shdr.{shdr_size}, Ehdr.{ehdr_size}, Sym.{sym_size}, Rel.{rel_size}, Shdr.{null_shdr}, declared.class.ElfClass.{ElfClass}}
+use Rattle.oc_elf.specs.{Shdr.{shdr_size, null_shdr}, Ehdr.{ehdr_size}, Sym.{sym_size}, Rel.{rel_size}, declared.class.ElfClass.{ElfClass}}
 use Rattle.oc_elf.specs.{declared.shdr.Shdr.{Shdr}, Classes.{is_big, machine_of, reloc_type, word_of}}
 use Rattle.oc_elf.specs.Structures.{word_bytes, ehdr_numbers, shdr_bytes, shdr_numbers}
 use Rattle.std.proofs.Common.{◌≡◌, ℕ, ◌-◌, ◌^◌, ◌<◌, List, [], ◌∷◌, ◌++◌, length, Some, None, refl, sym, ◌∙◌, ap, subst, arith, length-append, Bool, true, false, not, ◌&&◌, ◌≤◌, inl, inr, cond}

@@ -1,7 +1,7 @@
 -- The members of groups, taken up one after the other.
 use Rattle.std.proofs.Common.{◌≡◌, ℕ, ◌+◌, ◌<◌, ◌≤◌, inl, inr, Bool, true, false, cond, eqb, List, length, set, Option, None, Some, refl, sym, ◌∙◌, ap, arith}
 use Rattle.std.specs.Prelude.{◌&&◌, ◌||◌, nat_eq, nat_le, is_some, slice_index_or, if◌then◌else◌}
-use Rattle.std.proofs.lemmas.{Bool.{eqb-true, true≢false, and_parts}, Bool.{cases_lt}, Bool.Decides.{nat_tests}}
+use Rattle.std.proofs.lemmas.{Bool.{eqb-true, true≢false, and_parts, cases_lt}, Bool.Decides.{nat_tests}}
 use Rattle.oc_linking.specs.Numbers.{or_else}
 use Rattle.oc_shelf.specs.{Reading.Firsts.{any_upto}, Reading.Slots.{AreSlots}}
 use Rattle.oc_shelf.proofs.{ReadingLaws.FirstsLemmas.{any_more, first_more}, ReadingLaws.SlotLemmas.{slots_filled, slots_same}}

@@ -1,7 +1,7 @@
 -- Symbols, judged one after the other.
 use Rattle.std.proofs.Common.{◌≡◌, ℕ, ◌+◌, ◌<◌, inl, inr, true, false, cond, eqb, List, [], ◌∷◌, ◌++◌, map, Option, None, Some, refl, sym, ◌∙◌, ap, arith}
 use Rattle.std.specs.{Prelude.{Bool, is_some, nat_eq, nat_lt, not, MatchOption}, List.{range_with_len}, Option.{option_map, option_and_then, option_copied}}
-use Rattle.std.proofs.lemmas.{Bool.{ne_eqb, true≢false}, Bool.{cases_eq}, List.{map-append}, List.FromFn.{length-map-range_with_len, map-range_with_len_more}}
+use Rattle.std.proofs.lemmas.{Bool.{ne_eqb, true≢false, cases_eq}, List.{map-append}, List.FromFn.{length-map-range_with_len, map-range_with_len_more}}
 use Rattle.std.proofs.lemmas.Option.{none-some}
 use denote.Ref.{Bor}
 use Rattle.oc_base.specs.declared.fault.Fault.{Fault}

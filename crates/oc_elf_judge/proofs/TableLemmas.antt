@@ -1,7 +1,7 @@
 -- Where the tables and groups of a file stand whose section headers have no fault.
 use Rattle.std.proofs.Common.{◌≡◌, ℕ, zero, suc, ◌+◌, ◌*◌, ◌/◌, ◌<◌, ◌≤◌, inl, inr, Bool, true, false, cond, eqb, List, [], ◌∷◌, length, Option, None, Some, refl, sym, ◌∙◌, ap, subst, arith}
 use Rattle.std.specs.{Prelude.{not, nat_lt, nat_le, is_some}, Option.{unwrap_or, option_map_or}}
-use Rattle.std.proofs.lemmas.{Bool.{eqb-true, true≢false, and_parts}, Bool.{cases_lt}, Bool.Decides.{nat_tests}, Option.{none-some, same_Some}}
+use Rattle.std.proofs.lemmas.{Bool.{eqb-true, true≢false, and_parts, cases_lt}, Bool.Decides.{nat_tests}, Option.{none-some, same_Some}}
 use Rattle.oc_linking.specs.FirstFault.{fault_of, stage_fault}
 use Rattle.oc_linking.proofs.Upto.{first_upto_from, first_upto_stop}
 use Rattle.oc_shelf.proofs.{ReadingLaws.FirstsLemmas.{keyed_from}, ReadingLaws.StageLemmas.{clean_at}}

@@ -1,5 +1,5 @@
 -- The relocation that is given to the Builder for each entry, and those that are given for a file (our profile).
-use Rattle.std.specs.{Prelude.{ℕ, ◌&&◌, ◌||◌, Bool, nat_eq, nat_lt, true, List, slice_get, Option, Some, None, if◌then◌else◌}, Prelude.{ℤ, pos}}
+use Rattle.std.specs.Prelude.{ℕ, ◌&&◌, ◌||◌, Bool, nat_eq, nat_lt, true, List, slice_get, Option, Some, None, if◌then◌else◌, ℤ, pos}
 use Rattle.std.specs.Option.{option_map, option_map_or, option_and_then}
 use Rattle.oc_base.specs.{declared.format.Word.{Word}, declared.format.Word.TheVariants.{W32, W64}, Numbers.{number_at}}
 use Rattle.oc_linking.specs.{declared.terms.Width.{Width}, declared.terms.Width.TheVariants.{Eight}, Fits.{bytes_of}, declared.terms.Keep.{Keep}}

@@ -1,6 +1,6 @@
 -- Listings of worked Coff files, as an independent program prints them.
 use Rattle.std.proofs.Common.{◌≡◌, refl}
-use Rattle.std.specs.{Prelude.{codes}, Fmt.{digits}, Prelude.{[]}}
+use Rattle.std.specs.{Prelude.{codes, []}, Fmt.{digits}}
 use Rattle.oc_algebra.specs.{Residues.{residue_of}, Fields.{extended}}
 use Rattle.oc_base.specs.Numbers.{number_at}
 use Rattle.oc_neutral.specs.{Coff.Kinds.{coff_kind, coff_tag}, Dialects.{is_folded, looks_in, patches_in}}

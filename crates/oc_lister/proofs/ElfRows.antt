@@ -1,6 +1,6 @@
 -- Listings of worked Elf files, as an independent program prints them.
 use Rattle.std.proofs.Common.{◌≡◌, refl}
-use Rattle.std.specs.{Prelude.{codes}, Fmt.{digits}, Prelude.{[]}}
+use Rattle.std.specs.{Prelude.{codes, []}, Fmt.{digits}}
 use Rattle.oc_elf.specs.{Fields.{field_at, field_by, rel_at, target_of}, CarriedSections.{section_of, section_with}}
 use Rattle.oc_elf.specs.{CarriedSymbols.{binding_of, is_passed, symbol_by, symbol_of, symbol_with}, Ehdr.{ehdr_in}, Elf.{fault_in}, Entries.{name_at}}
 use Rattle.oc_elf.specs.{Frames.{framed, header_of, headers_of}, Groups.{key_of}, Names.{name_in, table_bytes}, Rel.{rel_in}}

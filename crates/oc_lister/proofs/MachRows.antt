@@ -1,6 +1,6 @@
 -- Listings of worked Mach files, as an independent program prints them.
 use Rattle.std.proofs.Common.{◌≡◌, refl}
-use Rattle.std.specs.{Prelude.{codes}, Fmt.{digits}, Prelude.{[]}}
+use Rattle.std.specs.{Prelude.{codes, []}, Fmt.{digits}}
 use Rattle.oc_base.specs.{Numbers.{number_at}, declared.format.Word.TheVariants.{W32, W64}}
 use Rattle.oc_algebra.specs.{Fields.{extended}, Residues.{residue_of}}
 use Rattle.oc_neutral.specs.{Mach.Kinds.{mach_kind, mach_tag}, Dialects.{is_folded, looks_in, patches_in}}
@@ -9,7 +9,7 @@ use Rattle.oc_macho.specs.{SectionHeader.{section_header_at}, Nlist.{nlist_at}}
 use Rattle.oc_macho.specs.{RelocationInfo.{relocation_info_at, relocation_info_of, reference_of, scattered_of}, Tables.{section_table, tables_of}}
 use Rattle.oc_macho.specs.{Sections.{kind_of, contents_of, section_of, sections_in, holder_of}, Symbols.{name_at, is_own, binding_of, symbol_of, symbols_by}}
 use Rattle.oc_macho.specs.{Entries.{row_for, item_at, is_pinned}, Aims.{aim_in}, Fields.{field_parts_by, added_by, field_of, item_for, fields_in}}
-use Rattle.oc_macho.specs.{Rules.{symbols_in}, Rules.{mach_dialect}}
+use Rattle.oc_macho.specs.Rules.{symbols_in, mach_dialect}
 use Rattle.oc_dump.specs.Lines.{hex}
 use Rattle.oc_macho.proofs.WorkedFiles.{called, called32, behind, difference, folded}
 use Rattle.oc_listings.specs.declared.listing.Listing.TheVariants.{Header, Sections, Relocations}

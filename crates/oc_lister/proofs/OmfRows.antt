@@ -1,6 +1,6 @@
 -- Listings of worked Omf files, as an independent program prints them.
 use Rattle.std.proofs.Common.{◌≡◌, refl}
-use Rattle.std.specs.{Prelude.{codes}, Fmt.{digits}, Prelude.{[]}}
+use Rattle.std.specs.{Prelude.{codes, []}, Fmt.{digits}}
 use Rattle.oc_base.specs.Numbers.{number_at}
 use Rattle.oc_algebra.specs.{Residues.{residue_of}, Fields.{extended}}
 use Rattle.oc_neutral.specs.{Omf.Kinds.{omf_kind}, Dialects.{is_folded, looks_in, patches_in}}
@@ -8,7 +8,7 @@ use Rattle.oc_omf.specs.Cursor.{number_read, index_read, name_read, each_read}
 use Rattle.oc_omf.specs.Structures.{segment_read, member_read, group_read, base_read, public_read, external_read, communal_length, communal_read, piece_read, method_read, thread_read, frame_read, target_read, displacement_read, fixup_read, subrecord_read}
 use Rattle.oc_omf.specs.{Entries.{said_by, places_in, entries_in}, Tables.{tables_of}, Sections.{contents_of, sections_in}}
 use Rattle.oc_omf.specs.{Symbols.{mentions_in, binding_of, symbols_in}, Fixups.{subrecords_upto, fixed_in}, Targets.{meaning_of}, Fields.{field_by, fields_in}}
-use Rattle.oc_omf.specs.{SectionFaults.{all_bytes}, SymbolFaults.{symbol_table}, Rules.{stages_of, fault_of}, Rules.{omf_dialect}}
+use Rattle.oc_omf.specs.{SectionFaults.{all_bytes}, SymbolFaults.{symbol_table}, Rules.{stages_of, fault_of, omf_dialect}}
 use Rattle.oc_dump.specs.Lines.{hex}
 use Rattle.oc_omf.proofs.WorkedFiles.{call, threads, assorted}
 use Rattle.oc_listings.specs.declared.listing.Listing.TheVariants.{Header, Sections, Relocations}

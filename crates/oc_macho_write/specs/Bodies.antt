@@ -8,7 +8,7 @@ use Rattle.oc_macho.specs.{declared.relocation_info.TheConstants.{RELOCATION_INF
 use Rattle.oc_macho.specs.{SectionHeader.{section_header_size}, SegmentCommand.{segment_command_size}}
 use Rattle.oc_macho.specs.Structures.{mach_header_bytes, symtab_bytes, section_bytes, nlist_bytes, relocation_bytes}
 use Rattle.oc_macho.specs.Structures.{segment_front, segment_back, dysymtab_front}
-use Rattle.oc_macho_file.specs.{Layout.{filled, strings_of}, Layout.{line_names}, Lines.{lines_of}, Symbols.{line_entry}}
+use Rattle.oc_macho_file.specs.{Layout.{filled, strings_of, line_names}, Lines.{lines_of}, Symbols.{line_entry}}
 use Rattle.oc_macho_write.specs.{declared.bodies.TheConstants.{DYSYMTAB_ZEROS}, declared.bodies.Bodies.{Bodies}, declared.heads.Heads.{Heads}}
 use Rattle.oc_macho_write.specs.{declared.parts.Part.{Part}, Relocations.{all_entries}, Strings.{table_with}, Words.{items_at, items_of}}
 use Rattle.oc_macho_write.specs.declared.parts.Part.TheVariants as part

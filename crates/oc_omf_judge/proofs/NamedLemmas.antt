@@ -3,7 +3,7 @@ use Rattle.std.proofs.Common.{◌≡◌, ℕ, ◌-◌, Bool, true, false, cond, 
 use Rattle.std.specs.{Prelude.{if◌then◌else◌, nat_eq, slice_get}, List.{enumerate_from, find}, Option.{option_and_then, option_map, option_map_or}}
 use Rattle.std.proofs.lemmas.Option.{none-some, same_Some, slice_get-map}
 use denote.Ref.{Bor}
-use Rattle.oc_linking.specs.{declared.terms.Binding.TheVariants.{Undefined, Common}, Rules.{Symbolic, Sectional}, Rules.{Named as Shown}, Values.{numbered}}
+use Rattle.oc_linking.specs.{declared.terms.Binding.TheVariants.{Undefined, Common}, Rules.{Symbolic, Sectional, Named as Shown}, Values.{numbered}}
 use Rattle.oc_linking.specs.Targets.{Target, named_by, symbol_target}
 use Rattle.oc_neutral.specs.Powers.{natural_align}
 use Rattle.oc_omf_judge.specs.{declared.earlier.External.{External as Mentioned}, Held.{Held, value_at}, EarlierSymbols.{mention_of}}

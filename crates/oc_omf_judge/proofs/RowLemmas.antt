@@ -3,7 +3,7 @@ use Rattle.std.proofs.Common.{◌≡◌, ℕ, ◌-◌, Bool, true, false, cond, 
 use Rattle.std.specs.{Prelude.{◌&&◌, ◌||◌, bytes_eq, codes, nat_eq}, Option.{is_some, option_and_then, option_map, option_map_or, unwrap_or}}
 use Rattle.std.proofs.lemmas.Option.{none-some}
 use denote.Ref.{Bor}
-use Rattle.oc_linking.specs.{Rules.{Sectional}, Rules.{Named as Shown}, Targets.{Target}}
+use Rattle.oc_linking.specs.{Rules.{Sectional, Named as Shown}, Targets.{Target}}
 use Rattle.oc_neutral.specs.Omf.Relocs.{ByFlat, ByTarget, BySelf, fixup_row}
 use Rattle.oc_omf_judge.specs.{declared.earlier.External.{External as Mentioned}, Held.{Held, value_at}, EarlierSymbols.{mention_of}}
 use Rattle.oc_omf_judge.specs.{declared.named.Named.{Named}, declared.whole.Whole.{Whole}}

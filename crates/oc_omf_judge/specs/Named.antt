@@ -1,7 +1,7 @@
 -- What frames and targets name, as a reader keeps it (our profile).
 use Rattle.std.specs.{Prelude.{ℕ, ◌-◌, Bool, true, false, ◌&&◌, nat_eq, bytes_eq, if◌then◌else◌, List, Option, Some, None}, Option.{option_map, option_map_or}}
 use denote.Ref.{Bor}
-use Rattle.oc_linking.specs.{Rules.{Symbolic, Sectional}, Rules.{Named as Shown}}
+use Rattle.oc_linking.specs.Rules.{Symbolic, Sectional, Named as Shown}
 use Rattle.oc_omf_judge.specs.{declared.earlier.External.{External}, Held.{Held, value_at}, declared.named.Named.{Named}, declared.whole.Whole.{Whole}}
 use Rattle.oc_omf.specs.{declared.structures.Method.{Method}, Symbols.{Mention, agree, number_of}, Tables.{indexed}}
 use Rattle.oc_omf_judge.specs.declared.named.Named.TheVariants as named

@@ -2,7 +2,7 @@
 use Rattle.std.proofs.Common.{◌+◌, length, sym, ◌∙◌, ap, subst, arith, IsOk, refl}
 use Rattle.oc_neutral.specs.{Building.{Draft, section_added}, Invariants.{HasItsBytes, IsMember}, declared.section.Section.{Section}}
 use Rattle.oc_shows.proofs.BuiltSteps.{added_is}
-use Rattle.oc_macho.specs.{declared.section_header.SectionHeader.{SectionHeader}, Framed.{IsTable}, Framed.{table_at}}
+use Rattle.oc_macho.specs.{declared.section_header.SectionHeader.{SectionHeader}, Framed.{IsTable, table_at}}
 use Rattle.oc_macho_judge.proofs.SectionLemmas.{there}
 use Rattle.oc_macho_read.specs.Built.{sectioned}
 use Rattle.oc_macho_read.proofs.{SectionedLemmas.{no_group, section_room, section_taken, sound_section}, TableLemmas.{bytes_long, table_of}}

@@ -1,6 +1,6 @@
 -- Zeros for one segment more.
 use Rattle.std.proofs.Common.{ℕ, ◌+◌, ◌<◌, ◌≡◌, ◌∷◌, [], length, replicate, sym, ◌∙◌, ap, subst, length-append}
-use Rattle.std.specs.{Prelude.{Vec}, Global.{Global}, Prelude.{List}}
+use Rattle.std.specs.{Prelude.{Vec, List}, Global.{Global}}
 use Rattle.oc_omf_read.specs.Contents.{items_at, size_in}
 use Rattle.oc_omf_read.proofs.ContentLemmas.{vectors_more}
 use Rattle.oc_omf_read.proofs.contents.zeros_for.Goals as goal
