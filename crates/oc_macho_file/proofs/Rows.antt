@@ -23,7 +23,8 @@ use Rattle.oc_macho.specs.Structures.{mach_header_bytes, symtab_bytes, section_b
 use Rattle.oc_macho_file.specs.{Addresses.{address_of}, Lines.{lines_of}, Bodies.{field_number, raw_of, standing_entries, entries_of}}
 use Rattle.oc_macho_file.specs.{Layout.{parts_of, line_names, string_table}, Symbols.{exponent_of, line_entry}}
 use Rattle.oc_macho_file.specs.Canonical.{file_header, segment_numbers, section_header, symtab_command, dysymtab_numbers, part_bytes, mach_file}
-use Rattle.oc_macho_file.proofs.WorkedFiles.{call_64, call_32, distance, compiled, everything_64, everything_32}
+use Rattle.oc_macho.proofs.WorkedFiles.{called, behind, compiled}
+use Rattle.oc_macho_file.proofs.WorkedFiles.{distance, everything_64, everything_32}
 
 -- a section
 abbrev section : List ℕ → Kind → ℕ → ℕ → List ℕ → ℕ → Section
@@ -51,7 +52,7 @@ call_64_object = record {
       (field 1 (target.Symbol 1) base.Address less.Place Four Signed (negsuc 3) Plain ∷ []) ∷ [];
 }
 
-pub call_64-file : mach_file W64 call_64_object ≡ call_64
+pub call_64-file : mach_file W64 call_64_object ≡ called
 unfolding mach_file part_bytes file_header segment_numbers section_header symtab_command dysymtab_numbers mach_header_bytes symtab_bytes section_bytes nlist_bytes relocation_bytes parts_of line_names string_table lines_of line_entry exponent_of address_of raw_of field_number standing_entries entries_of needed_sections needs_section_symbol strings.table_place strings.tops_of strings.text_of strings.table_text bytes_of_number written_row digits to_field_of field_for reduced_number residue_of
 call_64-file = refl
 
@@ -70,7 +71,7 @@ call_32_object = record {
       ∷ (field 1 (target.Symbol 0) base.Address less.Place Four Wrap (negsuc 3) Plain ∷ []) ∷ [];
 }
 
-pub call_32-file : mach_file W32 call_32_object ≡ call_32
+pub call_32-file : mach_file W32 call_32_object ≡ behind
 unfolding mach_file part_bytes file_header segment_numbers section_header symtab_command dysymtab_numbers mach_header_bytes symtab_bytes section_bytes nlist_bytes relocation_bytes parts_of line_names string_table lines_of line_entry exponent_of address_of raw_of field_number standing_entries entries_of needed_sections needs_section_symbol strings.table_place strings.tops_of strings.text_of strings.table_text bytes_of_number written_row digits to_field_of field_for reduced_number residue_of
 call_32-file = refl
 

@@ -17,7 +17,8 @@ use Rattle.oc_neutral.specs.declared.reloc.Target.TheVariants as target
 use Rattle.oc_omf.specs.Bytes.{entry_bytes, index_bytes, length_bytes}
 use Rattle.oc_omf_file.specs.{Names.{names_of, names_size, filled_from}, Pieces.{pieces_of}, Outputs.{symbol_outputs, outputs_of}}
 use Rattle.oc_omf_file.specs.{Fixups.{field_number, raw_of}, Canonical.{output_contents, omf_file}}
-use Rattle.oc_omf_file.proofs.WorkedFiles.{bare, calls, everything, cut}
+use Rattle.oc_omf.proofs.WorkedFiles.{call}
+use Rattle.oc_omf_file.proofs.WorkedFiles.{bare, everything, cut}
 
 -- a section
 abbrev section : List ℕ → Kind → ℕ → ℕ → List ℕ → Section
@@ -47,8 +48,8 @@ unfolding omf_file output_contents outputs_of symbol_outputs names_of pieces_of 
 bare-file = refl
 
 -- a call of `foo` by `main`
-abbrev pub calls_object : Object
-calls_object = record {
+abbrev pub call_object : Object
+call_object = record {
   format = Omf;
   groups = [];
   sections =
@@ -63,9 +64,9 @@ calls_object = record {
       ∷ [];
 }
 
-pub calls-file : omf_file calls_object ≡ calls
+pub call-file : omf_file call_object ≡ call
 unfolding omf_file output_contents outputs_of symbol_outputs names_of pieces_of field_number raw_of entry_bytes length_bytes bytes_of_number written_row to_field_of field_for reduced_number residue_of
-calls-file = refl
+call-file = refl
 
 -- all kinds, alignments and forms
 abbrev pub everything_object : Object

@@ -1,4 +1,4 @@
--- OMF modules from outside: a worked case, and modules put together from TIS OMF 1.1 by another program.
+-- OMF modules from outside, beside those of oc_omf: put together from TIS OMF 1.1 by another program.
 use Rattle.std.specs.Prelude.{ℕ, List, [], ◌∷◌}
 
 -- nothing at all
@@ -6,15 +6,6 @@ abbrev pub bare : List ℕ
 bare =
     128 ∷ 9 ∷ 0 ∷ 7 ∷ 111 ∷ 98 ∷ 106 ∷ 99 ∷ 111 ∷ 110 ∷ 118 ∷ 127 ∷ 150 ∷ 7 ∷ 0 ∷ 0 ∷ 4 ∷ 70 ∷ 76 ∷ 65 ∷ 84 ∷ 56 ∷ 154 ∷ 2
     ∷ 0 ∷ 2 ∷ 98 ∷ 138 ∷ 2 ∷ 0 ∷ 0 ∷ 116 ∷ []
-
--- a call of `foo` by `main`
-abbrev pub calls : List ℕ
-calls =
-    128 ∷ 9 ∷ 0 ∷ 7 ∷ 111 ∷ 98 ∷ 106 ∷ 99 ∷ 111 ∷ 110 ∷ 118 ∷ 127 ∷ 150 ∷ 18 ∷ 0 ∷ 0 ∷ 4 ∷ 70 ∷ 76 ∷ 65 ∷ 84 ∷ 5 ∷ 95 ∷ 84
-    ∷ 69 ∷ 88 ∷ 84 ∷ 4 ∷ 67 ∷ 79 ∷ 68 ∷ 69 ∷ 101 ∷ 153 ∷ 9 ∷ 0 ∷ 105 ∷ 6 ∷ 0 ∷ 0 ∷ 0 ∷ 3 ∷ 4 ∷ 1 ∷ 231 ∷ 154 ∷ 2 ∷ 0
-    ∷ 2 ∷ 98 ∷ 140 ∷ 6 ∷ 0 ∷ 3 ∷ 102 ∷ 111 ∷ 111 ∷ 0 ∷ 39 ∷ 145 ∷ 13 ∷ 0 ∷ 1 ∷ 1 ∷ 4 ∷ 109 ∷ 97 ∷ 105 ∷ 110 ∷ 0 ∷ 0 ∷ 0
-    ∷ 0 ∷ 0 ∷ 183 ∷ 161 ∷ 12 ∷ 0 ∷ 1 ∷ 0 ∷ 0 ∷ 0 ∷ 0 ∷ 232 ∷ 0 ∷ 0 ∷ 0 ∷ 0 ∷ 195 ∷ 167 ∷ 157 ∷ 6 ∷ 0 ∷ 164 ∷ 1 ∷ 22
-    ∷ 1 ∷ 1 ∷ 160 ∷ 138 ∷ 2 ∷ 0 ∷ 0 ∷ 116 ∷ []
 
 -- all kinds, alignments and forms: symbols that are defined here as targets, communals of all lengths
 abbrev pub everything : List ℕ

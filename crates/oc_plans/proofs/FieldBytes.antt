@@ -1,17 +1,16 @@
 -- The bytes of a section in which the numbers of its fields are written, field by field.
-use Rattle.std.proofs.Common.{◌≡◌, ℕ, ◌+◌, ◌-◌, ◌/◌, ◌%◌, ◌^◌, ◌<◌, ◌≤◌, Bool, true, false, cond, nat_eq, nat_le, nat_lt, inl, inr, List, [], ◌∷◌, length, map, set, get_or, Option, Some, None, refl, sym, ◌∙◌, ap, subst, arith}
-use mathlib.Core.Path.{fun_ext}
-use Rattle.std.specs.{Prelude.{slice_get}, List.{AllByRecursion}, Option.{option_map, option_and_then, unwrap_or}}
-use Rattle.std.proofs.lemmas.{Bool.{cases_lt, eqb-true}, Bool.Decides.{nat_tests}, List.{ext_get_or}, Option.{none-some, same_Some, get_or_from_slice_get}}
+use Rattle.std.proofs.Common.{◌≡◌, ℕ, ◌+◌, ◌<◌, ◌≤◌, false, nat_eq, List, [], ◌∷◌, length, map, set, get_or, Option, Some, None, refl, sym, ◌∙◌, ap, subst, arith}
+use Rattle.std.specs.{Prelude.{slice_get}, List.{AllByRecursion}, Option.{option_map}}
+use Rattle.std.proofs.lemmas.{List.{ext_get_or}, Option.{none-some, same_Some, get_or_from_slice_get}}
 use Rattle.std.proofs.Math.Seq.{map-set_same}
-use Rattle.oc_linking.specs.{declared.terms.Patch.{Patch}, Fits.{bytes_of, stored}, Images.{byte_by, byte_upto, overlay}, Shows.{Apart}, Numbers.{first_upto}}
-use Rattle.oc_linking.proofs.{Overlay.{length-overlay}, Storing.{byte_of_image, byte-of_field, others_stay}}
+use Rattle.oc_linking.specs.{declared.terms.Patch.{Patch}, Fits.{bytes_of}, Images.{overlay}, Shows.{Apart}}
+use Rattle.oc_linking.proofs.{Overlay.{length-overlay}, Storing.{others_stay}}
 use Rattle.oc_chains.specs.{declared.field.Field.{Field}, Fields.{end_of, FollowFrom}, Lists.{Lists, list_of}}
 use Rattle.oc_neutral.specs.{declared.section.Section.{Section}, declared.reloc.Reloc.{Reloc}, Building.{with_number, written}}
 use Rattle.oc_neutral.specs.{Constants.{EndsWithin, IsWide, LieWithin, with_contents}, Invariants.{IsObject}, Objects.{Object, reloc_among}}
 use Rattle.oc_neutral.proofs.{ConstantObject.{within}, Partly.{partly, partly_all, partly_more, partly_next}, Positions.{images_same, lengths_same, there_at}}
 use Rattle.oc_neutral.proofs.{SortedFields.{found_first, other_first, none_before}, Standing.{ends_by}}
-use Rattle.oc_neutral.proofs.WrittenBytes.{length-written, written-before, written-behind, written-inside}
+use Rattle.oc_neutral.proofs.{WrittenBytes.{length-written}, WrittenFields.{field_step}}
 use Rattle.oc_plans.specs.Numbered.{AreAll, Numbering, all_with_numbers, patch_by, patches_by, section_with_numbers, with_numbers}
 
 module _ (number_of : ℕ → Reloc → ℕ) where
@@ -64,62 +63,9 @@ module _ (number_of : ℕ → Reloc → ℕ) where
       apart : Apart all
       apart = patches_apart x.at (x ∷ rest) (omega arith, thick, follow) (wide, more)
 
-      -- the bytes with the number
-      abbrev done : List ℕ
-      done = written x.width number x.at bytes
-
-      -- a byte of the field
-      own : (back : ℕ) → back < x.width → get_or (overlay all 0 bytes) (x.at + back) 0 ≡ get_or (overlay left 0 done) (x.at + back) 0
-      own back l =
-          byte-of_field all apart bytes x.at back (patch_by (number_of x.at) x.item) here (omega (arith, wide, l)) (omega (arith, wide, inside))
-          ∙ sym (written-inside x.width number x.at bytes back inside l)
-          ∙ sym (others_stay left done (x.at + back) (let e = length-written x.width number x.at bytes in omega (arith, e, inside, l))
-          (λ at q there low high. let late : at < end_of x = omega (arith, low, l) in none-some q (sym (none_early (end_of x) rest at follow late) ∙ there)))
-
-      -- what a field gives at a byte that is not of the first
-      same_by : (i back : ℕ) → (x.at ≤ i → end_of x ≤ i) → byte_by all i back ≡ byte_by left i back
-      same_by i back beside = elim (nat_le back i) as (λ b. nat_le back i ≡ b → cond b (option_and_then (stored back) (all (i - back))) None ≡ cond b (option_and_then (stored back) (left (i - back))) None) [
-        | false ↦ λ e. refl
-        | true ↦ λ e. by e (nat_eq x.at (i - back)) refl
-      ] refl
-        where
-          at_first : nat_le back i ≡ true → x.at ≡ i - back → option_and_then (stored back) (all x.at) ≡ option_and_then (stored back) (left x.at)
-          at_first e same =
-              let low : back ≤ i = grind (arith, nat_tests) in
-              let past : end_of x ≤ i = beside (omega (arith, same, low)) in
-              let out : nat_lt back (bytes_of x.item.form.width) ≡ false = let far : bytes_of x.item.form.width ≤ back = omega (arith, same, low, past, wide) in grind (arith, nat_tests, far) in
-              ap (option_and_then (stored back)) here ∙ ap (λ b. cond b (Some (number / 256 ^ back % 256)) None) out
-              ∙ ap (option_and_then (stored back)) (sym (none_early (end_of x) rest x.at follow (omega arith)))
-
-          by : nat_le back i ≡ true → (b : Bool) → nat_eq x.at (i - back) ≡ b → option_and_then (stored back) (all (i - back)) ≡ option_and_then (stored back) (left (i - back))
-          by e true h = let same = eqb-true x.at (i - back) h in subst (λ k. option_and_then (stored back) (all k) ≡ option_and_then (stored back) (left k)) same (at_first e same)
-          by e false h = ap (option_and_then (stored back)) (others (i - back) h)
-
-      -- another byte
-      other : (i : ℕ) → i < length bytes → (x.at ≤ i → end_of x ≤ i) → get_or done i 0 ≡ get_or bytes i 0 → get_or (overlay all 0 bytes) i 0 ≡ get_or (overlay left 0 done) i 0
-      other i l beside stays =
-          byte_of_image all i bytes l
-          ∙ ap (λ (f : ℕ → Option ℕ). unwrap_or (first_upto f 8) (get_or bytes i 0)) (fun_ext (λ back. same_by i back beside))
-          ∙ ap (λ z. unwrap_or (byte_upto left i 8) z) (sym stays)
-          ∙ sym (byte_of_image left i done (let e = length-written x.width number x.at bytes in omega (arith, e, l)))
-
-      each : (i : ℕ) → i < length bytes → get_or (overlay all 0 bytes) i 0 ≡ get_or (overlay left 0 done) i 0
-      each i l = elim (cases_lt i x.at) [
-        | inl before ↦ other i l (λ a. absurd (omega (arith, a, before))) (written-before x.width number x.at bytes i before)
-        | inr from ↦ elim (cases_lt i (end_of x)) [
-          | inl within ↦
-              let e : x.at + (i - x.at) ≡ i = omega (arith, from) in
-              subst (λ k. get_or (overlay all 0 bytes) k 0 ≡ get_or (overlay left 0 done) k 0) e (own (i - x.at) (omega (arith, from, within)))
-          | inr past ↦ let p : end_of x ≤ i = omega (arith, past) in other i l (λ a. p) (written-behind x.width number x.at bytes i p)
-        ]
-      ]
-
       -- a number that is written is done
-      write_step : overlay all 0 bytes ≡ overlay left 0 done
-      write_step =
-          let long : length (overlay all 0 bytes) ≡ length bytes = length-overlay all 0 bytes in
-          let same : length (overlay all 0 bytes) ≡ length (overlay left 0 done) = long ∙ sym (length-overlay left 0 done ∙ length-written x.width number x.at bytes) in
-          ext_get_or 0 (overlay all 0 bytes) (overlay left 0 done) same (λ i l. each i (subst (λ m. i < m) long l))
+      write_step : overlay all 0 bytes ≡ overlay left 0 (written x.width number x.at bytes)
+      write_step = field_step all left apart x.at x.width (patch_by (number_of x.at) x.item) here thick wide others (λ at l. none_early (end_of x) rest at follow l) bytes inside
 
   -- a section in which a number is written, and one in which all are
   section_step : (x : Field Reloc) (rest : List (Field Reloc)) → 1 ≤ x.width → FollowFrom (end_of x) rest → IsWide x → AllByRecursion IsWide rest → (s : Section) → end_of x ≤ length s.bytes
