@@ -6,28 +6,14 @@
 PREFIX ?= /usr/local
 PROGRAMS = objconv objlink objbatch objlist
 
-# `rt run` alone proves one library after another. `rt all check` proves those that do not stand on each other side by side, and `rt run`
-# takes what it built. One check more than there are processors keeps them busy, as far as each check has 3 GB.
-JOBS ?= $(shell awk -v most=$$(($$(nproc) + 1)) '/^MemAvailable:/ { n = int($$2 / 3000000); print n < 1 ? 1 : n < most ? n : most }' /proc/meminfo)
+SOURCES = $(shell find crates -path '*/out' -prune -o -type f -print) crates.txt scripts/build-programs
 
 .PHONY: programs check examples compare tools refuse-memory install clean
 programs: $(PROGRAMS:%=build/%)
 
-# each program proves what the ones before it have not; one after another, since each uses all processors
-.NOTPARALLEL:
-build/objconv: CRATE = objconv_main
-build/objconv: WORDS = -fcoff32 data/a /dev/null
-build/objlink: CRATE = objlink
-build/objlink: WORDS = data/a data/p
-build/objbatch: CRATE = objbatch
-build/objbatch: WORDS = /dev/null
-build/objlist: CRATE = objlist
-build/objlist: WORDS = -dh data/a
-
-$(PROGRAMS:%=build/%): $(shell find crates -path '*/out' -prune -o -type f -print) crates.txt
-	cd crates/$(CRATE) && rt all check --jobs $(JOBS)
-	cd crates/$(CRATE) && rt run -- $(WORDS)
-	mkdir -p build && cp crates/$(CRATE)/out/$(CRATE) $@
+# all four come of one run (grouped targets, GNU make 4.3)
+$(PROGRAMS:%=build/%) &: $(SOURCES)
+	scripts/build-programs build
 
 check:
 	.ci/run

@@ -24,13 +24,13 @@ BOXES = [
 ABOVE = [
     ("programs", [["objconv", "objconv_main"], ["objlink", "oc_linker"], ["objlist", "oc_lister"],
                   ["objbatch", "oc_batch"], ["oc_runs", "oc_words"]]),
-    ("all formats", [["oc_dispatch", "oc_convert"], ["oc_canonical"], ["oc_made", "oc_making"], ["oc_link", "oc_place"],
+    ("all formats", [["oc_dispatch", "oc_convert"], ["oc_canonical", "oc_built"], ["oc_made", "oc_making"], ["oc_link", "oc_place"],
                      ["oc_listings", "oc_dump"]]),
 ]
 BELOW = [("linking,\nbytes",
           [["oc_linking"], ["oc_algebra", "oc_chains"], ["oc_strings", "oc_weight"], ["oc_outside"], ["oc_base"]])]
 # crates that no other crate stands on, and that are no programs for a user
-BESIDE = ["tests_base", "tests_object", "tests_cases", "tests_elf", "tests_coff", "tests_macho", "tests_omf",
+BESIDE = ["all_programs", "tests_base", "tests_object", "tests_cases", "tests_elf", "tests_coff", "tests_macho", "tests_omf",
           "worked_conversions", "worked_runs", "worked_programs", "bench"]
 # they hold instances alone, and are drawn also before crates.txt has them
 INSTANCES = {"oc_big_elf", "oc_big_coff"}

@@ -7,7 +7,7 @@ use Rattle.oc_names.specs.Wishes.{Wishes, no_wishes}
 use Rattle.oc_made.specs.Files.{made_bytes}
 use Rattle.oc_making.proofs.Making.{made_is_accepted, made_is_short}
 use Rattle.oc_convert.specs.Dispatched.{dispatch_refusal, IsDispatched}
-use Rattle.oc_dispatch.specs.Built.{built}
+use Rattle.oc_built.specs.Built.{built}
 use Rattle.objconv.specs.Making.{IsMadeFile, making_refusal}
 use Rattle.oc_runs.proofs.Refused.{rest_next}
 

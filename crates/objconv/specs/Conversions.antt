@@ -4,7 +4,7 @@ use Rattle.oc_base.specs.declared.format.Format.{Format}
 use Rattle.oc_names.specs.Wishes.{Wishes}
 use Rattle.oc_outside.specs.{Causes.{IsSteady}, Held.{Held, file_of, with_file, HasPart}}
 use Rattle.oc_convert.specs.Dispatched.{IsDispatched}
-use Rattle.oc_dispatch.specs.Built.{built}
+use Rattle.oc_built.specs.Built.{built}
 use Rattle.oc_runs.specs.{States.{State}, Refusals.{HasRefusal, IsExact, IsJudged}}
 use Rattle.objconv.specs.Refusals.{conversion_refusal}
 

@@ -3,7 +3,7 @@ use Rattle.std.specs.{Prelude.{◌≡◌, ℕ, List, Option, Some, None}, Option
 use Rattle.oc_dump.specs.Lines.{symbol_lines_of}
 use Rattle.oc_neutral.specs.Objects.{Object}
 use Rattle.oc_outside.specs.{Causes.{IsSteady}, Held.{Held, file_of}, Texts.{grown, TakesPrefix}}
-use Rattle.oc_dispatch.specs.Built.{IsRead}
+use Rattle.oc_built.specs.Built.{IsRead}
 use Rattle.oc_runs.specs.{States.{State}, Refusals.{HasRefusal, IsExact, IsJudged}}
 use Rattle.objconv.specs.Refusals.{listing_refusal, none}
 

@@ -5,7 +5,7 @@ use Rattle.oc_names.specs.Wishes.{no_wishes}
 use Rattle.oc_outside.specs.{Causes.{IsSteady}, Held.{with_file, HasPart}, Texts.{grown, TakesPrefix}}
 use Rattle.oc_made.specs.Files.{made_bytes}
 use Rattle.oc_convert.specs.Dispatched.{IsDispatched}
-use Rattle.oc_dispatch.specs.Built.{built}
+use Rattle.oc_built.specs.Built.{built}
 use Rattle.oc_runs.specs.States.{State, IsRefusal}
 use Rattle.objconv.specs.Refusals.{conversion_refusal}
 

@@ -4,7 +4,7 @@ use Rattle.oc_base.specs.{declared.fault.Fault.{Fault}, declared.format.Format.{
 use Rattle.oc_linking.specs.{declared.terms.Keep.{Keep}, Numbers.{or_else}}
 use Rattle.oc_names.specs.Wishes.{Wishes}
 use Rattle.oc_convert.specs.Dispatched.{dispatch_refusal, reading_refusal}
-use Rattle.oc_dispatch.specs.Built.{built}
+use Rattle.oc_built.specs.Built.{built}
 use Rattle.oc_runs.specs.Refusals.{length_refusal}
 
 -- nothing is kept that may be left out

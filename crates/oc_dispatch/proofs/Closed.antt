@@ -9,7 +9,7 @@ use Rattle.oc_target.specs.Fitted.{IsFitted}
 use Rattle.oc_names.specs.Wishes.{no_wishes}
 use Rattle.oc_convert.specs.{Converted.{planned_file}, Dispatched.{IsClosed, dispatch_refusal, refusal_from, header_refusal}, Identified.{identified}}
 use Rattle.oc_convert.specs.Refusals.{first_refusal}
-use Rattle.oc_dispatch.specs.Built.{built, reader_of, writer_of}
+use Rattle.oc_built.specs.Built.{built, reader_of, writer_of}
 use Rattle.oc_elf.specs.{declared.class.ElfClass.{ElfClass}, declared.class.ElfClass.TheVariants.{Class32, Class64, Big32, Big64}, Classes.{format_of}}
 use Rattle.oc_elf.specs.Elf.{elf_dialect}
 use Rattle.oc_elf_file.specs.Canonical.{elf_file}

@@ -3,7 +3,7 @@ ghost use Rattle.std.specs.Prelude.{◌≡◌, ◌≤◌, length, None, IfErr, I
 ghost use Rattle.oc_base.specs.declared.limits.TheConstants.{MOST_INPUT};
 ghost use Rattle.oc_base.specs.Stops.{IsStop};
 ghost use Rattle.oc_convert.specs.Dispatched.{reading_refusal};
-ghost use Rattle.oc_dispatch.specs.Built.{IsRead, built};
+ghost use Rattle.oc_built.specs.Built.{IsRead, built};
 
 use crate::reading::read_any;
 use oc_base::Stop;

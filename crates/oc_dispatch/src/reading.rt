@@ -7,7 +7,7 @@ ghost use Rattle.oc_shows.specs.Readable.{IsReadable};
 ghost use Rattle.oc_shows.specs.Shows.{Shows};
 ghost use Rattle.oc_neutral.specs.Dialects.{IsDialect};
 ghost use Rattle.oc_convert.specs.Dispatched.{reading_refusal};
-ghost use Rattle.oc_dispatch.specs.Built.{IsRead, built};
+ghost use Rattle.oc_built.specs.Built.{IsRead, built};
 
 use crate::header::header_refusal;
 use oc_base::{Code, Format, Stop};
@@ -46,7 +46,7 @@ fn read_by<R: Reads>(alloc: Global, reader: &R, bytes: &[u8], keep: &Keep) -> Re
 /// none, it is the one object that shows the file. `NoMemory` where memory ran out. Takes the memory
 /// and time of reading: some 1 GiB and 10 seconds for the worst files known, but for modules of OMF with
 /// millions of names (measured: docs/SAFETY.md).
-#[tactic(auto, unfolding(crate::specs::Built::built))]
+#[tactic(auto, unfolding(oc_built::specs::Built::built))]
 pub fn read_any(alloc: Global, bytes: &[u8], keep: &Keep) -> Result<Neutral, Stop>
     requires { length bytes.now ≤ MOST_INPUT }
     ensures well_formed { OnOk result (reading_refusal built keep.now bytes.now ≡ None) }

@@ -7,7 +7,7 @@ use Rattle.oc_linking.specs.Keeping.{all}
 use Rattle.oc_neutral.specs.{Objects.{Object}, Dialects.{Dialect}, Invariants.{IsObject}}
 use Rattle.oc_outside.specs.{Causes.{Rose}, Held.{Held, file_of}, Reading.{IsAbsent}}
 use Rattle.oc_convert.specs.Identified.{identified}
-use Rattle.oc_dispatch.specs.Built.{built, IsRead}
+use Rattle.oc_built.specs.Built.{built, IsRead}
 use Rattle.oc_place.specs.{Placings.{Placing, placed_in}, Footprints.{FootprintsAgree, footprint_of}, Written.{Bad}}
 use Rattle.oc_link.specs.{Laws.{TextsAgree}, Linked.{link_text_in, link_text_of}}
 use Rattle.oc_runs.specs.{declared.input.InputFault.{InputFault}, Refusals.{HasRefusal, length_refusal}}

@@ -3,7 +3,7 @@ use Rattle.std.specs.{Prelude.{◌≡◌, ℕ, ◌<◌, ◌⊎◌, List, length,
 use Rattle.oc_linking.specs.Keeping.{all}
 use Rattle.oc_neutral.specs.Objects.{Object}
 use Rattle.oc_outside.specs.{Causes.{Rose}, Held.{Held, file_of}, Reading.{IsAbsent}}
-use Rattle.oc_dispatch.specs.Built.{IsRead}
+use Rattle.oc_built.specs.Built.{IsRead}
 use Rattle.oc_place.specs.{Placings.{Placing, placed_in}, Footprints.{footprint_of}, Written.{Bad}}
 use Rattle.oc_link.specs.Linked.{link_text_of}
 use Rattle.oc_runs.specs.{Refusals.{HasRefusal}, Reports.{IsReported}, Texts.{Tells, memory_text}}

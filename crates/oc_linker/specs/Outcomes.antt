@@ -4,7 +4,7 @@ use Rattle.oc_base.specs.{declared.code.Code.TheVariants.{UnknownFormat}, declar
 use Rattle.oc_linking.specs.{Keeping.{all}, Numbers.{or_else}}
 use Rattle.oc_neutral.specs.Dialects.{Dialect}
 use Rattle.oc_convert.specs.{Dispatched.{header_refusal, reading_refusal}, Identified.{identified}}
-use Rattle.oc_dispatch.specs.Built.{built}
+use Rattle.oc_built.specs.Built.{built}
 use Rattle.oc_place.specs.{Placings.{Placing, placed_in}, Footprints.{footprint_in}, Written.{Bad}}
 use Rattle.oc_link.specs.Linked.{link_text_in}
 use Rattle.oc_runs.specs.{Refusals.{length_refusal}, States.{status_by}}

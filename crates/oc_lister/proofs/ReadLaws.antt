@@ -2,7 +2,7 @@
 use Rattle.std.proofs.Common.{ℕ, List, length, sym}
 use Rattle.oc_linking.specs.Keeping.{all}
 use Rattle.oc_neutral.specs.{Invariants.{IsObject}, Objects.{Object}}
-use Rattle.oc_dispatch.specs.Built.{IsRead, built}
+use Rattle.oc_built.specs.Built.{IsRead, built}
 use Rattle.oc_listings.specs.{declared.listing.Listing.{Listing}, Laws.{ListingsAgree}, ObjectListings.{object_listing}}
 use Rattle.oc_lister.specs.Runs.{IsListed}
 

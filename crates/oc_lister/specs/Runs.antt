@@ -4,7 +4,7 @@ use Rattle.oc_base.specs.{declared.fault.Fault.{Fault}, declared.format.Format.{
 use Rattle.oc_linking.specs.{Keeping.{all}, Numbers.{or_else}}
 use Rattle.oc_outside.specs.{Causes.{IsSteady}, Held.{Held, file_of}, Texts.{grown, TakesPrefix}}
 use Rattle.oc_convert.specs.{Dispatched.{reading_refusal}, Identified.{identified}}
-use Rattle.oc_dispatch.specs.Built.{built}
+use Rattle.oc_built.specs.Built.{built}
 use Rattle.oc_listings.specs.{declared.listing.Listing.{Listing}, Listings.{listing_of}}
 use Rattle.oc_runs.specs.Ends as ends
 use Rattle.oc_runs.specs.{Refusals.{HasRefusal, IsExact, IsJudged, length_refusal}, States.{State}}

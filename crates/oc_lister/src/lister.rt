@@ -5,7 +5,7 @@ ghost use Rattle.oc_base.specs.Stops.{IsStop};
 ghost use Rattle.oc_outside.specs.Causes.{Counts};
 ghost use Rattle.oc_linking.specs.Keeping.{all};
 ghost use Rattle.oc_convert.specs.Dispatched.{reading_refusal};
-ghost use Rattle.oc_dispatch.specs.Built.{IsRead, built};
+ghost use Rattle.oc_built.specs.Built.{IsRead, built};
 ghost use Rattle.oc_runs.specs.Reports as reports;
 ghost use Rattle.oc_runs.specs.States.{state_of};
 ghost use Rattle.oc_lister.specs.Runs as runs;

@@ -2,7 +2,7 @@
 use Rattle.std.proofs.Common.{◌≡◌, ℕ, List, Option, None, Some, subst}
 use Rattle.oc_base.specs.declared.fault.Fault.{Fault}
 use Rattle.oc_convert.specs.Dispatched.{dispatch_refusal}
-use Rattle.oc_dispatch.specs.Built.{built}
+use Rattle.oc_built.specs.Built.{built}
 use Rattle.oc_runs.proofs.Refused.{decided, holds_of}
 use Rattle.objconv.proofs.conversion.plan.Goals as goal
 

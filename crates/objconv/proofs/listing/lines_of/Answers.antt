@@ -2,7 +2,7 @@
 use Rattle.std.proofs.Common.{◌≡◌, ℕ, List, Option, None, Some, sym, subst}
 use Rattle.oc_base.specs.declared.fault.Fault.{Fault}
 use Rattle.oc_convert.specs.Dispatched.{reading_refusal}
-use Rattle.oc_dispatch.specs.Built.{built}
+use Rattle.oc_built.specs.Built.{built}
 use Rattle.oc_runs.specs.Refusals.{HasRefusal}
 use Rattle.objconv.specs.Refusals.{listing_refusal, none}
 use Rattle.oc_runs.proofs.Refused.{decided, holds_of}

@@ -7,7 +7,7 @@ use Rattle.oc_elf.specs.{declared.class.ElfClass.TheVariants.{Class32, Class64, 
 use Rattle.oc_coff.specs.declared.form.CoffForm.TheVariants as form
 use Rattle.oc_macho.specs.Rules.{mach_dialect}
 use Rattle.oc_omf.specs.Rules.{omf_dialect}
-use Rattle.oc_dispatch.specs.Built.{built, reader_of}
+use Rattle.oc_built.specs.Built.{built, reader_of}
 use Rattle.oc_dispatch.proofs.DispatchLemmas.{reader_accepted, reader_planned, reader_refused}
 use Rattle.oc_dispatch.proofs.dispatching.dispatch_identified.Goals as goal
 

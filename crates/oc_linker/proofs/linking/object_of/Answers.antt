@@ -3,7 +3,7 @@ use Rattle.std.proofs.Common.{◌≡◌, ℕ, List, Option, None, Some, sym, sub
 use Rattle.oc_base.specs.declared.fault.Fault.{Fault}
 use Rattle.oc_linking.specs.Keeping.{all}
 use Rattle.oc_convert.specs.Dispatched.{reading_refusal}
-use Rattle.oc_dispatch.specs.Built.{built, IsRead}
+use Rattle.oc_built.specs.Built.{built, IsRead}
 use Rattle.oc_runs.specs.Refusals.{HasRefusal}
 use Rattle.oc_runs.proofs.Refused.{decided, holds_of}
 use Rattle.oc_linker.specs.Outcomes.{object_refusal}
