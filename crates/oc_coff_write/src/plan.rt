@@ -11,9 +11,6 @@ use oc_neutral::Section;
 use oc_shelf::{Parts, copy_window};
 use oc_strings::Table;
 
-#[cfg(test)]
-mod tests;
-
 /// A planned file of COFF.
 pub type Plan = oc_plans::Plan<CoffParts>;
 

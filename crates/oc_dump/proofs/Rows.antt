@@ -1,7 +1,7 @@
 -- Lines of symbols: the first two by hand from the description of the command, the others from its rules.
 use Rattle.std.proofs.Common.{◌≡◌, ℕ, false, List, [], ◌∷◌, ◌++◌, refl}
 use Rattle.std.specs.{Prelude.{codes, None}, Fmt.{digits}}
-use Rattle.oc_base.specs.{declared.format.Format.{Format}, declared.format.Format.TheVariants.{Elf32, Elf64}}
+use Rattle.oc_base.specs.{declared.format.Format.{Format}, declared.format.Format.TheVariants.{Elf32, Elf64, Mac64}}
 use Rattle.oc_linking.specs.{declared.terms.Kind.TheVariants.{Code}, declared.terms.Mark.TheVariants.{NoType}, declared.terms.Visibility.TheVariants.{Default}}
 use Rattle.oc_linking.specs.{declared.terms.Binding.{Binding}, declared.terms.Binding.TheVariants.{Local, Global, Undefined, Common, Weak}}
 use Rattle.oc_linking.specs.declared.terms.Value.TheVariants as value
@@ -27,7 +27,12 @@ symbols_listed : symbol_lines_of (object Elf32 (symbol (codes "main") (Global (v
 unfolding symbol object section symbol_lines_of line_of hex digits
 symbols_listed = refl
 
--- sixteen digits in 64 bits; a Local is listed too
+-- sixteen digits in 64 bits
+undefined : line_of (object Mac64 []) (symbol (codes "foo") Undefined) ≡ codes "U 0000000000000000 - foo\n"
+unfolding symbol object section line_of hex digits
+undefined = refl
+
+-- a Local is listed too
 local_absolute : line_of (object Elf64 []) (symbol (codes "@comp.id") (Local (value.Absolute 0xC0DE))) ≡ codes "L 000000000000c0de abs @comp.id\n"
 unfolding symbol object section line_of hex digits
 local_absolute = refl
@@ -56,6 +61,6 @@ unfolding symbol object section line_of hex digits
 weak_name = refl
 
 -- the backslash, and the bytes before 21 and behind 7E hexadecimal
-escaped : shown_name (0x5C ∷ 0x20 ∷ 0x21 ∷ 0x7E ∷ 0x7F ∷ 0xFF ∷ 0 ∷ []) ≡ codes "\\x5c\\x20!~\\x7f\\xff\\x00"
+escaped : shown_name (0x5C ∷ 0x20 ∷ 0x21 ∷ 0x7E ∷ 0x7F ∷ 0xFF ∷ 0 ∷ 0x0A ∷ []) ≡ codes "\\x5c\\x20!~\\x7f\\xff\\x00\\x0a"
 unfolding hex digits
 escaped = refl

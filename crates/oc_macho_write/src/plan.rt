@@ -6,9 +6,6 @@ use oc_base::Word;
 use oc_neutral::Section;
 use oc_shelf::Parts;
 
-#[cfg(test)]
-mod tests;
-
 /// A planned file of Mach-O.
 pub type Plan = oc_plans::Plan<MachParts>;
 

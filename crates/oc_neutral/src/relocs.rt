@@ -12,9 +12,6 @@ use oc_chains::{ChainFault, Chains, Walk};
 use std::alloc::Global;
 use std::marker::Model;
 
-#[cfg(test)]
-mod tests;
-
 /// The relocations of each section of an object. Contracts see the list of each section, and how
 /// many entries are free.
 ///

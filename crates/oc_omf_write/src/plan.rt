@@ -6,9 +6,6 @@ use crate::tables::Tables;
 use crate::windows::entry_window;
 use oc_shelf::Parts;
 
-#[cfg(test)]
-mod tests;
-
 /// A planned file of OMF.
 pub type Plan = oc_plans::Plan<OmfParts>;
 

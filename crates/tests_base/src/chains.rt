@@ -74,3 +74,25 @@ fn items_of_two_types(rt: HostRuntime) -> Result<(), Fail> {
     check_items(&rt, rt.alloc(), 7u64, 9u64)?;
     check_items(&rt, rt.alloc(), ("b", false), ("a", true))
 }
+
+/// Three fields of one section are dropped, and a field of another takes one of their entries.
+#[test]
+fn dropped_entries_are_reused(rt: HostRuntime) -> Result<(), Fail> {
+    let mut chains = Chains::new(rt.alloc());
+    let numbers = (chains.add_section()?, chains.add_section()?);
+    chains.insert(0, 8, 4, 'a')?;
+    chains.insert(0, 0, 4, 'b')?;
+    chains.insert(0, 4, 4, 'c')?;
+    let refused = chains.insert(0, 6, 4, 'd');
+    assert_eq!(rt; (numbers, refused), ((0, 1), Err(ChainFault::Overlap)));
+    check_walk(&rt, &chains, 0, &[0, 4, 8]);
+    let before = chains.spare();
+    chains.drop_section(0);
+    check_walk(&rt, &chains, 0, &[]);
+    let dropped = chains.spare();
+    chains.insert(1, 0, 4, 'e')?;
+    check_walk(&rt, &chains, 0, &[]);
+    check_walk(&rt, &chains, 1, &[0]);
+    assert_eq!(rt; (before, dropped, chains.spare()), (0, 3, 2));
+    Ok(())
+}

@@ -2,4 +2,5 @@
 mod mem_console;
 mod mem_files;
 mod pieces;
+mod real_console;
 mod real_files;

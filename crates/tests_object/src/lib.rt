@@ -4,8 +4,6 @@
 #[cfg(test)]
 mod convert;
 #[cfg(test)]
-mod dump;
-#[cfg(test)]
 mod express;
 #[cfg(test)]
 mod names;

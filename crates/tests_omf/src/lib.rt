@@ -1,4 +1,4 @@
-//! Tests of the readers of OMF, by what those make public: a module for each crate.
+//! Tests of the readers and of the writer of OMF, by what those make public: a module for each crate.
 #![tactic(auto)]
 
 #[cfg(test)]
@@ -7,3 +7,5 @@ mod omf;
 mod omf_judge;
 #[cfg(test)]
 mod omf_read;
+#[cfg(test)]
+mod omf_write;

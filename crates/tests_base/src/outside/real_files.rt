@@ -96,3 +96,19 @@ fn real_file_is_opened_anew(rt: HostRuntime) -> Result<(), Fail> {
     }
     Ok(())
 }
+
+/// A file that is not there is a fault of each kind.
+#[test]
+fn real_file_that_is_absent(rt: HostRuntime) -> Result<(), Fail> {
+    let path = path(&rt, "absent")?;
+    let name = path.as_str();
+    let mut files = RealFiles::new(rt.alloc(), &rt);
+    let absent = read_file(rt.alloc(), &mut files, name, LIMIT).err();
+    let appended = files.append(name, b"a");
+    let created = files.create("/tmp/oc_outside/no/such/folder");
+    assert_eq!(rt;
+        (absent, appended, created),
+        (Some(ReadFault::Input), Err(Failed), Err(Failed))
+    );
+    Ok(())
+}

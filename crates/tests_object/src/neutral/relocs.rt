@@ -1,9 +1,7 @@
-//! Numbers of lists and free entries, counted by hand.
-use crate::reloc::{Reloc, Target};
-use crate::relocs::Relocs;
-use oc_algebra::{Base, Check, Form, Less, Width};
+//! Lists of relocations that are left, and free entries, counted by hand.
+
 use oc_chains::Chains;
-use oc_linking::Hint;
+use oc_neutral::{Base, Check, Form, Hint, Less, Reloc, Relocs, Target, Width};
 use std::process::Abort;
 use std::test::Fail;
 
@@ -20,23 +18,16 @@ const ADDRESS: Reloc = Reloc {
     hint: Hint::Plain,
 };
 
-// three lists, of which the sections have those of these numbers, and so many free entries
-fn check_parts(rt: &impl Abort, relocs: &Relocs, numbers: &[u32], spare: u32) -> Result<(), Fail> {
-    let Relocs { chains, of } = relocs;
-    let of = of
-        .as_ref()
-        .ok_or("a section went, so that there are numbers")?;
-    assert_eq!(rt; (chains.section_count(), chains.spare()), (3, spare));
-    assert_eq!(rt; of.len(), numbers.len());
-    for (number, want) in of.iter().zip(numbers) {
-        assert_eq!(rt; *number, *want);
-    }
-    Ok(())
+// the list of a section that is there begins with a field at this offset, and has so many fields
+fn check_list(rt: &impl Abort, relocs: &Relocs, section: u32, first: u32, count: usize) {
+    assert!(rt; section < relocs.section_count());
+    let begin = relocs.walk(section).next().map(|field| field.at);
+    assert_eq!(rt; (begin, relocs.walk(section).count()), (Some(first), count));
 }
 
 /// Of three sections with one, two and two relocations the second goes, then the first.
 #[test]
-fn lists_keep_their_numbers(rt: HostRuntime) -> Result<(), Fail> {
+fn lists_go_with_their_sections(rt: HostRuntime) -> Result<(), Fail> {
     let mut chains = Chains::new(rt.alloc());
     let _numbers = (
         chains.add_section()?,
@@ -50,7 +41,11 @@ fn lists_keep_their_numbers(rt: HostRuntime) -> Result<(), Fail> {
     chains.insert(1, 4, 4, ADDRESS)?;
     let mut relocs = Relocs::of(chains);
     relocs.leave(rt.alloc(), &[true, false, true])?;
-    check_parts(&rt, &relocs, &[0, 2], 2)?;
+    assert_eq!(rt; (relocs.section_count(), relocs.spare()), (2, 2));
+    check_list(&rt, &relocs, 0, 4, 1);
+    check_list(&rt, &relocs, 1, 0, 2);
     relocs.leave(rt.alloc(), &[false, true])?;
-    check_parts(&rt, &relocs, &[2], 3)
+    assert_eq!(rt; (relocs.section_count(), relocs.spare()), (1, 3));
+    check_list(&rt, &relocs, 0, 0, 2);
+    Ok(())
 }

@@ -1,65 +1,27 @@
-//! What a plan holds of a file, where data are cut, and windows of a small file.
-use super::OmfParts;
-use crate::tables::Tables;
-use crate::writer::OmfWriter;
+//! Where data are cut, and windows of a small file.
+
 use oc_base::Format;
 use oc_express::fit;
+use oc_omf_write::OmfWriter;
 use oc_plans::object_of_data;
-use oc_shelf::Layout;
 use oc_target::{Emits, Writes};
 use std::test::Fail;
 
-/// How many bytes the one section has.
-const SIZE: u32 = 100_000;
-
-/// The plan of 100,000 bytes of data has these, one segment, four names, and a place for each entry: 98
-/// of the data, and five others.
-#[test]
-fn a_plan_does_not_keep_the_file(rt: HostRuntime) -> Result<(), Fail> {
-    let fitted = fit(
-        rt.alloc(),
-        Format::Omf,
-        object_of_data(rt.alloc(), Format::Omf, SIZE)?,
-    )?;
-    let (parts, layout) = OmfWriter.plan(rt.alloc(), fitted)?.into_parts();
-    let OmfParts {
-        tables: Tables {
-            sections,
-            segments,
-            names,
-            symbols,
-            fixups,
-        },
-        entries,
-    } = parts;
-    let Layout { places, end } = layout;
-    let counts = (sections.len(), segments.len(), names.len(), symbols.len());
-    assert_eq!(rt; counts, (1, 1, 4, 0));
-    assert_eq!(rt; (entries.len(), places.len(), end), (103, 103, 100_937));
-    for section in &sections {
-        assert_eq!(rt; section.bytes.as_slice().len(), SIZE as usize);
-    }
-    for table in &fixups {
-        assert!(rt; table.is_empty());
-    }
-    Ok(())
-}
-
-/// Sizes of data, how many entries their file has, and how many bytes: there are five entries of 55
-/// bytes besides the pieces, of which each has up to 1,024 bytes of data and nine others.
-static SIZES: [(u32, usize, u64); 6] = [
-    (0, 5, 55),
-    (1, 6, 65),
-    (1024, 6, 1088),
-    (1025, 7, 1098),
-    (2048, 7, 2121),
-    (2049, 8, 2131),
+/// Sizes of data, and how many bytes their file has: 55 besides the pieces, of which each has up to
+/// 1,024 bytes of data and nine others.
+static SIZES: [(u32, u64); 6] = [
+    (0, 55),
+    (1, 65),
+    (1024, 1088),
+    (1025, 1098),
+    (2048, 2121),
+    (2049, 2131),
 ];
 
 /// No entry has more than 1,024 bytes of data, and none but the last has fewer.
 #[test]
 fn data_are_cut_at_1024_bytes(rt: HostRuntime) -> Result<(), Fail> {
-    for (size, entries, long) in &SIZES {
+    for (size, long) in &SIZES {
         let fitted = fit(
             rt.alloc(),
             Format::Omf,
@@ -67,8 +29,6 @@ fn data_are_cut_at_1024_bytes(rt: HostRuntime) -> Result<(), Fail> {
         )?;
         let plan = OmfWriter.plan(rt.alloc(), fitted)?;
         assert_eq!(rt; plan.len(), *long, "{size} bytes");
-        let (_parts, layout) = plan.into_parts();
-        assert_eq!(rt; layout.places.len(), *entries, "{size} bytes");
     }
     Ok(())
 }
