@@ -14,7 +14,7 @@ use Rattle.oc_shelf.proofs.{WritingLaws.StandingLemmas.{stands_inside}, WritingL
 use Rattle.oc_shelf.specs.Reading.Texts.{text_at}
 use Rattle.oc_coff_file.specs.{Layout.{text_of}, Canonical.{symbol_field, section_field, string_table}}
 use Rattle.oc_target.specs.CoffMeets.{offset_of, strings_of}
-use Rattle.oc_target.proofs.MeetsConditions.{not_below}
+use Rattle.oc_linking.proofs.Testing.{not_below}
 
 -- a name without NUL
 pub no_nul : (name : List ℕ) → has_nul name ≡ false → All (λ c. c ≢ 0) name

@@ -25,7 +25,7 @@ use Rattle.oc_shelf.proofs.ReadingLaws.StageLemmas.{Unbroken, unbroken_append, I
 use Rattle.oc_coff_file.specs.{Lines.{numbered_lines}, Bodies.{raw_of, relocs_of}, Layout.{laid_parts, is_raw, is_relocs}}
 use Rattle.oc_coff_file.specs.Canonical.{header_at, string_table, coff_file, section_aux, leads}
 use Rattle.oc_neutral.proofs.Positions.{there_at}
-use Rattle.oc_target.proofs.MeetsConditions.{not_below}
+use Rattle.oc_linking.proofs.Testing.{not_below}
 
 -- ... running sums
 

@@ -22,7 +22,7 @@ use Rattle.oc_shelf.specs.{Writing.Parts.{Stands, place_where}, Reading.Rows.{ro
 use Rattle.oc_coff_file.specs.{Lines.{numbered_lines, entry_count}, Bodies.{raw_of, relocs_of}}
 use Rattle.oc_coff_file.specs.Layout.{text_of, laid_parts, is_raw, is_relocs, is_symbol_table}
 use Rattle.oc_coff_file.specs.Canonical.{header_at, entry_rows, file_header, string_table, coff_file}
-use Rattle.oc_target.proofs.MeetsConditions.{not_below}
+use Rattle.oc_linking.proofs.Testing.{not_below}
 
 -- what the header counts
 pub symbols_counted : (w : CoffForm) (n : Object) → (file_header w n).NumberOfSymbols ≡ entry_count w n

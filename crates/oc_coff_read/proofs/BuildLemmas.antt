@@ -21,7 +21,7 @@ use Rattle.oc_coff_judge.specs.Led.{carried_at, section_at}
 use Rattle.oc_coff_read.specs.Built.{keys_of, sectioned}
 use Rattle.oc_coff_read.proofs.BegunLemmas.{key_given, section_group}
 use Rattle.oc_coff_judge.proofs.CarriedLemmas.{section_is}
-use Rattle.oc_target.proofs.MeetsConditions.{not_below}
+use Rattle.oc_linking.proofs.Testing.{not_below}
 use Rattle.oc_neutral.proofs.LeftObject.{sum_map}
 
 numbered_at : {X : Type 0} (n : ℕ) (xs : List X) (i : ℕ) → slice_get (enumerate_from n xs) i ≡ option_map (λ x. (i + n, x)) (slice_get xs i)

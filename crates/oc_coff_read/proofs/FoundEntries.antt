@@ -11,7 +11,7 @@ use Rattle.oc_coff.specs.{declared.relocation.Relocation.{Relocation}, Tables.{T
 use Rattle.oc_coff.specs.{Forms.{coff_format}, Fields.{relocates, says_nothing}}
 use Rattle.oc_coff.specs.RelocationFaults.{Judged, is_wrong_aim, judged_from, judged_in, meets_field, relocation_conditions, relocation_fault, relocation_stage, row_conditions}
 use Rattle.oc_coff_judge.proofs.EntryLemmas.{find_from}
-use Rattle.oc_target.proofs.MeetsConditions.{not_below}
+use Rattle.oc_linking.proofs.Testing.{not_below}
 use Rattle.oc_neutral.proofs.Adding.{wide_enough}
 
 -- ... the entries that are judged

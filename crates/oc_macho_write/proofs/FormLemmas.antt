@@ -11,7 +11,8 @@ use Rattle.oc_neutral.specs.Rows.{Row, Taken, TakesZero, TakesPlace, TakesGotBas
 use Rattle.oc_neutral.specs.{RelocTables.{rows_of}, Shifts.{entry_target_shift, written_shift}}
 use Rattle.oc_neutral.specs.{Spelling.{is_written, numbers_in, row_taking, spelling_of, written_row}, Objects.{Object}}
 use Rattle.oc_neutral.proofs.Mapped.{from_mapped}
-use Rattle.oc_target.proofs.MeetsRows.{of_table, found_there, taken_is, width_is}
+use Rattle.oc_linking.proofs.Testing.{found_there}
+use Rattle.oc_target.proofs.MeetsRows.{of_table, taken_is, width_is}
 use Rattle.oc_target.specs.{declared.forms.Spelling.{Spelling}, Lookup.{answer_of}}
 use Rattle.oc_target.specs.declared.forms.Spelling.TheVariants as spelling
 use Rattle.oc_macho.specs.MachHeader.{mach_format}

@@ -5,7 +5,7 @@ use Rattle.std.proofs.lemmas.{Bool.Decides.{nat_tests}, List.{length-take-le, le
 use Rattle.std.proofs.Math.Seq.{drop-append-add, take-append_seam}
 use Rattle.oc_omf_records.specs.Blocks.{none, content, denotation}
 use Rattle.oc_omf.specs.{Sections.{laid_over}, declared.constants.TheConstants.{MOST_ENTRY_BYTES}}
-use Rattle.oc_target.proofs.MeetsRows.{found_there}
+use Rattle.oc_linking.proofs.Testing.{found_there}
 use Rattle.oc_shelf.proofs.WritingLaws.WindowLemmas.{take_none, drop_none}
 use Rattle.oc_omf_file.specs.Pieces.{cuts, piece_end, pieces_upto}
 use Rattle.oc_omf_file.proofs.GivenLaws.{window_piece}

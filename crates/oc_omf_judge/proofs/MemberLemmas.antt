@@ -3,7 +3,7 @@ use Rattle.std.proofs.Common.{◌≡◌, ℕ, Bool, true, false, ◌||◌, not, 
 use Rattle.std.proofs.Math.Bool.{or-false}
 use Rattle.oc_omf.specs.{declared.constants.TheConstants.{SEGMENT_INDEX}, Cursor.{Read}}
 use Rattle.oc_omf_judge.specs.{declared.groups.Members.{Members}, Members.{members_in}}
-use Rattle.oc_target.proofs.Marking.{or_assoc}
+use Rattle.std.proofs.Math.Bool.{or_assoc}
 
 -- what is wrong with one or another
 abbrev pub both : Members → Members → Members

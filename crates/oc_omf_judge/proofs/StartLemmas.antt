@@ -5,7 +5,7 @@ use Rattle.std.specs.Option.{option_map_or, unwrap_or}
 use Rattle.std.proofs.lemmas.{Bool.{true≢false, and_parts, and_from}, Bool.Decides.{nat_tests}, Option.{none-some, same_Some, slice_get-get_or}}
 use Rattle.std.proofs.lemmas.{List.Folds.{list_any-append}, Map.Keys.{any_passes_from_place}}
 use Rattle.oc_neutral.proofs.FieldLists.{take_here}
-use Rattle.oc_target.proofs.MeetsParts.{any_passes}
+use Rattle.oc_linking.proofs.Testing.{any_passes}
 use Rattle.oc_shelf.proofs.WritingLaws.MemberLemmas.{each_append, member_map, of_map}
 use Rattle.oc_omf_records.specs.Blocks.{moved}
 use Rattle.oc_omf.specs.{Structures.{Piece}, Fixups.{Fixed, are_near, copies_for, field_offsets, is_of_segment, meet}, RelocationFaults.{is_kept}}

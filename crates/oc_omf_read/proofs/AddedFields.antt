@@ -31,7 +31,7 @@ use Rattle.oc_omf_read.proofs.PlacedFixups.{IsAt, at_inside, good, sound}
 use Rattle.oc_omf_read.proofs.StandingFields.{are_apart, are_of_file, differences_fit, standing_less, standing_target, standing_width}
 use Rattle.oc_omf_read.proofs.{StartLemmas.{symbol_number, zero_uncovered}, WholeSymbols.{symbol_whole}}
 use Rattle.oc_shows.proofs.AddedLaws.{AreAddable, IsTaken, taken}
-use Rattle.oc_target.proofs.KeyPlaces.{either_way}
+use Rattle.oc_linking.proofs.Testing.{either_way}
 
 -- a symbol of an external, by what is made of it
 against_of : (m : Meaning) (segment : ℕ) (f : Fixup) (frame o : Option Method) (fix : Fix) → fix_by m segment f frame o ≡ Some fix → (method : Method) × (o ≡ Some method) × (against m method ≡ Some fix.target)

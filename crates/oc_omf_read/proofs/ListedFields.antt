@@ -9,7 +9,7 @@ use Rattle.std.proofs.lemmas.Option.{none-some, same_Some, get_or_from_slice_get
 use Rattle.oc_linking.specs.{declared.terms.Keep.{Keep}, FirstFault.{first_fault, stage_fault}}
 use Rattle.oc_neutral.specs.declared.reloc.Reloc.{Reloc}
 use Rattle.oc_neutral.proofs.Mapped.{all_from}
-use Rattle.oc_target.proofs.{MeetsRows.{found_there}, KeyPlaces.{either_way}}
+use Rattle.oc_linking.proofs.Testing.{either_way, found_there}
 use Rattle.oc_shelf.proofs.WritingLaws.MemberLemmas.{member_map, of_map}
 use Rattle.oc_omf_records.specs.Blocks.{copies_of, moved}
 use Rattle.oc_omf.specs.{declared.constants.TheConstants.{OFFSET_32}, Entries.{Entry, entries_in}, Fields.{fixups_in, relocates}, Fixups.{Fixed, field_offsets}}

@@ -12,7 +12,7 @@ use Rattle.oc_omf.specs.Tables.{is_indexed}
 use Rattle.oc_omf.specs.Tables as all
 use Rattle.oc_omf.proofs.EntryLemmas.{conditions_at}
 use Rattle.oc_omf_read.proofs.DefinedLemmas.{tables_upto}
-use Rattle.oc_target.proofs.MeetsConditions.{not_below}
+use Rattle.oc_linking.proofs.Testing.{not_below}
 
 -- structures without a fault are read, and each meets its conditions
 read_clean : {X : Type 0} (cut : Fault) (conditions : X → List Condition) (ss : List (Read X)) → first_broken (flat_map (whole_conditions cut conditions) ss) ≡ None

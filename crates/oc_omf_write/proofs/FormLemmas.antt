@@ -7,7 +7,8 @@ use Rattle.oc_linking.specs.{declared.terms.Hint.{Hint}, declared.terms.Hint.The
 use Rattle.oc_algebra.specs.{declared.form.Form.{Form}, Fields.{to_field_of}}
 use Rattle.oc_neutral.specs.{declared.reloc.Reloc.{Reloc}, Objects.{Object}, Rows.{Row, Taken, TakesPlace, TakesSection, same_taken, taken_of, shift_of}}
 use Rattle.oc_neutral.specs.{RelocTables.{rows_of}, Spelling.{is_written, row_taking, written_row}}
-use Rattle.oc_target.proofs.MeetsRows.{of_table, found_there}
+use Rattle.oc_linking.proofs.Testing.{found_there}
+use Rattle.oc_target.proofs.MeetsRows.{of_table}
 use Rattle.oc_omf_file.specs.Fixups.{written_reloc, row_by, number_or, number_by, field_number}
 use Rattle.oc_omf_write.specs.Written.{HasRow, number_in, shift_by, number_with}
 

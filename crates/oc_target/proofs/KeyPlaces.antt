@@ -3,16 +3,10 @@ use Rattle.std.proofs.Common.{◌≡◌, refl, ℕ, suc, ◌&&◌, ◌||◌, Boo
 use Rattle.std.specs.{Prelude.{nat_eq, slice_get, filter, bytes_eq}, List.{list_any}, Option.{option_map_or, option_and_then}}
 use Rattle.std.proofs.lemmas.{Bool.{and_parts, eqb-true, false_from_ne_true}, Option.{same_Some}, Slice.Eq.{bytes_eq-Decides}}
 use Rattle.oc_linking.specs.{declared.terms.Binding.{Binding}, Parts.{is_local}}
+use Rattle.oc_linking.proofs.Testing.{either_way}
 use Rattle.oc_neutral.specs.{declared.symbol.Symbol.{Symbol}, Objects.{Object}, Faces.{key_of}, Invariants.{AreDistinct}}
 use Rattle.oc_neutral.specs.{KeySymbols.{global_place, group_at, is_key_name, is_key_at}, Normal.{Place}}
 use Rattle.oc_target.proofs.MeetsParts.{some_passes}
-
--- numbers are compared either way
-pub either_way : (a b : ℕ) → nat_eq a b ≡ nat_eq b a
-either_way a b = by (nat_eq a b) (nat_eq b a) refl refl
-  where
-    by : (s t : Bool) → nat_eq a b ≡ s → nat_eq b a ≡ t → s ≡ t
-    by s t e f = grind arith
 
 -- the name is the key of the group of section k
 abbrev pub is_key_in : Object → ℕ → List ℕ → Bool

@@ -1,15 +1,11 @@
 -- Sections that are marked, one after another.
 use Rattle.std.proofs.Common.{◌≡◌, refl, ℕ, ◌+◌, ◌≤◌, ◌||◌, Bool, true, false, List, length, Some, ◌∙◌, ap}
 use Rattle.std.specs.{Prelude.{slice_get, drop}, List.{count_by, list_any, enumerate_from, range_with_len}}
+use Rattle.std.proofs.Math.Bool.{or_assoc}
 use Rattle.std.proofs.lemmas.{List.{drop_all}, List.Sums.{length-filter}}
 use Rattle.oc_chains.specs.declared.field.Field.{Field}
 use Rattle.oc_neutral.specs.{declared.reloc.Reloc.{Reloc}, Objects.{Object}, Mach.SectionSymbols.{any_names, needs_section_symbol, needed_sections}}
 use Rattle.oc_neutral.proofs.FieldLists.{drop_here}
-
--- one of three
-pub or_assoc : (a b c : Bool) → ((a || b) || c) ≡ (a || (b || c))
-or_assoc true b c = refl
-or_assoc false b c = refl
 
 -- three marks
 pub marked_thrice : (old one two three a b c : Bool) → one ≡ (old || a) → two ≡ (one || b) → three ≡ (two || c) → three ≡ (old || ((a || b) || c))

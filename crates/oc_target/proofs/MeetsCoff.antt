@@ -5,6 +5,7 @@ use Rattle.std.proofs.lemmas.Bool.{and_parts, ltb-true, or_parts, not-false}
 use Rattle.oc_base.specs.{declared.format.Format.{Format}, declared.format.Format.TheVariants.{Coff32, Coff64, Mac64, BigCoff32, BigCoff64}, Formats.{word_for}}
 use Rattle.oc_linking.specs.{declared.terms.Kind.{Kind}, declared.terms.Hint.TheVariants.{Plain}, declared.terms.Value.TheVariants.{Absolute}}
 use Rattle.oc_linking.specs.{declared.terms.Binding.TheVariants.{Global, Common}, Numbers.{modulus}}
+use Rattle.oc_linking.proofs.Testing.{not_below}
 use Rattle.oc_neutral.specs.{Tests.{is_cut, is_unnatural}, Family.{IsCoff, Family}, Powers.{natural_align}, declared.coff.TheConstants.{MOST_NAME_OFFSET}}
 use Rattle.oc_neutral.specs.{declared.section.Section.{Section}, declared.symbol.Symbol.{Symbol}, declared.reloc.Reloc.{Reloc}, Alignments.{common_align}}
 use Rattle.oc_neutral.specs.{Coff.Strings.{is_tabled, string_offset}, Families.{family_of, container_of, section_range}, Relocated.{is_relocated}}
@@ -15,7 +16,7 @@ use Rattle.oc_neutral.specs.{TargetSections.{section_conditions}, TargetSymbols.
 use Rattle.oc_target.specs.{CoffMeets.{offset_of, CoffSection, IsNaturalCommon, CoffSymbol, CoffReloc, FittedMeetsCoff}, Fitted.{fitted_binding, IsFitted}}
 use Rattle.oc_target.specs.Meets.{has_calls, MeetsReloc}
 use Rattle.oc_neutral.proofs.{Formats.{of_coff, most_sections}, Positions.{each_at}}
-use Rattle.oc_target.proofs.{MeetsConditions.{not_below, section_count_met, section_met, symbol_met}, MeetsCounts.{bounded_object}, MeetsGroups.{group_member}}
+use Rattle.oc_target.proofs.{MeetsConditions.{section_count_met, section_met, symbol_met}, MeetsCounts.{bounded_object}, MeetsGroups.{group_member}}
 use Rattle.oc_target.proofs.{MeetsKinds.{IsCoffTag, coff_named}, MeetsParts.{positive, power, uncut, led, taken_alike, plain_shift}, MeetsRelocs.{reloc_meets}}
 use Rattle.oc_target.proofs.{MeetsRows.{of_table}, MeetsStrings.{section_given, symbol_given, default_given}, MeetsStringSum.{strings_fit}}
 

@@ -39,10 +39,6 @@ below_length [] k x h = absurd (none-some x h)
 below_length (y ∷ xs) zero x h = omega arith
 below_length (y ∷ xs) (suc k) x h = let l = below_length xs k x h in omega (arith, l)
 
--- what is not below
-pub not_below : (a b : ℕ) → nat_lt a b ≡ false → b ≤ a
-not_below a b e = grind (arith, nat_tests)
-
 -- the thing at a position meets its conditions
 pub each_met : {X : Type 0} (conditions : X → List Condition) (xs : List X) (k : ℕ) (x : X) → slice_get xs k ≡ Some x → AreMet (each_of conditions xs k) → AreMet (conditions x)
 each_met conditions xs k x here met = subst (λ o. AreMet (option_map_or conditions o [])) here met

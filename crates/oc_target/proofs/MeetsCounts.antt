@@ -4,12 +4,13 @@ use Rattle.std.specs.{Prelude.{slice_get, sum_by, nat_eq}, List.{AllByRecursion}
 use Rattle.std.proofs.lemmas.List.Sums.{sum_by-cons}
 use Rattle.oc_base.specs.declared.format.Format.{Format}
 use Rattle.oc_linking.specs.FirstFault.{Condition}
+use Rattle.oc_linking.proofs.Testing.{not_below}
 use Rattle.oc_chains.specs.{declared.field.Field.{Field}, Fields.{FollowFrom, end_of}, Lists.{Lists, list_of, held_in}}
 use Rattle.oc_neutral.specs.{declared.section.Section.{Section}, declared.reloc.Reloc.{Reloc}, Building.{stored_size, stored_sum}, Families.{family_of}}
 use Rattle.oc_neutral.specs.{HomeNames.{output_names}, Invariants.{AreBegun, begun_with, groups_of, HasItsBytes, IsHeld}, Objects.{Object}}
 use Rattle.oc_neutral.specs.TargetSymbols.{bounded, names_length, limited}
 use Rattle.oc_target.specs.{Fitted.{IsFitted}, Meets.{text_sum, AreBounded}}
-use Rattle.oc_target.proofs.MeetsConditions.{AreMet, not_below, own_names, symbol_count_met}
+use Rattle.oc_target.proofs.MeetsConditions.{AreMet, own_names, symbol_count_met}
 use Rattle.oc_neutral.proofs.{Positions.{each_at}, LeftObject.{sum_map}}
 
 -- ... fields

@@ -7,6 +7,7 @@ use Rattle.std.proofs.lemmas.{Bool.{true≢false, and_parts, ltb-true}, Option.{
 use Rattle.oc_linking.specs.{declared.terms.Kind.{Kind}, declared.terms.Kind.TheVariants.{Zero, Exception}, declared.terms.Base.TheVariants.{HomeNumber}}
 use Rattle.oc_linking.specs.declared.terms.Hint.TheVariants.{Plain}
 use Rattle.oc_linking.specs.declared.terms.Fallback.TheVariants as fallback
+use Rattle.oc_linking.proofs.Testing.{not_below}
 use Rattle.oc_chains.specs.Lists.{list_of}
 use Rattle.oc_neutral.specs.{Family.{IsElf, Family}, declared.section.Section.{Section}, declared.symbol.Symbol.{Symbol}, declared.reloc.Reloc.{Reloc}}
 use Rattle.oc_neutral.specs.{Elf.Kinds.{elf_tag_type, is_nobits_tag}, Families.{is_many, family_of, container_of, section_range}, Relocated.{is_relocated}}
@@ -17,7 +18,7 @@ use Rattle.oc_neutral.specs.TargetSymbols.{bounded, is_weak_form, symbol_conditi
 use Rattle.oc_target.specs.{ElfMeets.{ElfSection, ElfSymbol, ElfReloc, FittedMeetsElf}, Fitted.{IsFitted}, Meets.{has_calls, MeetsReloc}}
 use Rattle.oc_shows.specs.Readable.{AreZeros}
 use Rattle.oc_neutral.proofs.{Formats.{of_elf}, Positions.{each_at}}
-use Rattle.oc_target.proofs.{MeetsConditions.{AreMet, not_below, section_count_met, section_met, symbol_met}, MeetsCounts.{symbols_bounded, bounded_object}}
+use Rattle.oc_target.proofs.{MeetsConditions.{AreMet, section_count_met, section_met, symbol_met}, MeetsCounts.{symbols_bounded, bounded_object}}
 use Rattle.oc_target.proofs.{MeetsGroups.{keys_uncut}, MeetsKinds.{IsElfTag, carried_small, elf_zero, elf_named}}
 use Rattle.oc_target.proofs.{MeetsParts.{all_bytes, power, uncut, steady, taken_alike, plain_shift, only_address}, MeetsRelocs.{reloc_meets}}
 use Rattle.oc_target.proofs.MeetsRows.{of_table}

@@ -12,7 +12,7 @@ use Rattle.oc_neutral.specs.Elf.Kinds.{carried_types, is_carried_type, is_unwind
 use Rattle.oc_neutral.specs.{Coff.Kinds.{coff_kind, coff_tag}, HomeNames.{is_home}}
 use Rattle.oc_neutral.specs.Coff.Kinds as coff
 use Rattle.oc_target.specs.Meets.{IsReadAs}
-use Rattle.oc_target.proofs.MeetsParts.{any_passes}
+use Rattle.oc_linking.proofs.Testing.{any_passes}
 use Rattle.oc_neutral.proofs.Positions.{each_at}
 
 -- ... tests

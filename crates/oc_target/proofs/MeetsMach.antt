@@ -8,6 +8,7 @@ use Rattle.oc_linking.specs.{declared.terms.Width.TheVariants.{Four}, declared.t
 use Rattle.oc_linking.specs.declared.terms.Hint.TheVariants.{Plain}
 use Rattle.oc_linking.specs.declared.terms.Less.TheVariants as less
 use Rattle.oc_linking.specs.declared.terms.Fallback.TheVariants as fallback
+use Rattle.oc_linking.proofs.Testing.{not_below}
 use Rattle.oc_algebra.specs.Fields.{to_field_of}
 use Rattle.oc_chains.specs.Lists.{list_of}
 use Rattle.oc_neutral.specs.{Family.{IsMach, Family}, declared.section.Section.{Section}, declared.symbol.Symbol.{Symbol}, declared.reloc.Reloc.{Reloc}}
@@ -22,7 +23,7 @@ use Rattle.oc_target.specs.{Fitted.{IsFitted}, MachMeets.{MachSection, MachSymbo
 use Rattle.oc_target.specs.Meets.{has_calls, MeetsReloc, HoldsAddend}
 use Rattle.oc_shows.specs.Readable.{AreZeros}
 use Rattle.oc_neutral.proofs.{Formats.{of_mach}, Positions.{each_at, images_same}, ShiftLemmas.{four_bytes_hold}}
-use Rattle.oc_target.proofs.MeetsConditions.{AreMet, not_below, below_length, section_count_met, section_met, symbol_met, reloc_met}
+use Rattle.oc_target.proofs.MeetsConditions.{AreMet, below_length, section_count_met, section_met, symbol_met, reloc_met}
 use Rattle.oc_target.proofs.{MeetsCounts.{symbols_bounded, bounded_object}, MeetsGroups.{no_groups}, MeetsMachKinds.{IsMachTag, mach_zero, mach_named}}
 use Rattle.oc_target.proofs.{MeetsNames.{needed_there}, MeetsParts.{all_bytes, positive, power, is_something, uncut, steady, taken_alike}}
 use Rattle.oc_target.proofs.{MeetsRelocs.{no_error, reloc_meets}, MeetsRows.{of_table}}

@@ -4,15 +4,16 @@ use Rattle.std.specs.{Prelude.{slice_get, nat_le, nat_lt, not, count_by, find, i
 use Rattle.std.proofs.lemmas.Bool.{true≢false}
 use Rattle.oc_base.specs.{declared.format.Format.TheVariants.{Omf}, declared.format.Word.TheVariants.{W32}}
 use Rattle.oc_linking.specs.declared.terms.Width.TheVariants.{Four}
+use Rattle.oc_linking.proofs.Testing.{found_there, not_below}
 use Rattle.oc_algebra.specs.Fields.{to_field_of}
 use Rattle.oc_neutral.specs.{Bindings.{is_external}, Powers.{natural_align}, Omf.Family.{omf_aligns}, declared.section.Section.{Section}}
 use Rattle.oc_neutral.specs.{declared.symbol.Symbol.{Symbol}, declared.reloc.Reloc.{Reloc}, Alignments.{output_align}, Objects.{Object, reloc_at}}
 use Rattle.oc_neutral.specs.{Omf.Relocs.{FixupFrame, fixup_row}, RelocTables.{rows_of}, Rows.{Row}, TargetSections.{is_debug_kept, section_conditions}}
 use Rattle.oc_neutral.specs.TargetSymbols.{is_absolute_form, is_common_form, is_weak_form, symbol_conditions}
 use Rattle.oc_target.specs.{Fitted.{fitted_binding, IsFitted}, Meets.{MeetsReloc}, OmfMeets.{OmfSection, OmfSymbol, OmfReloc, FittedMeetsOmf}}
-use Rattle.oc_target.proofs.{MeetsCoff.{natural, align_same, fitted_common}, MeetsConditions.{not_below, section_count_met, section_met, symbol_met}}
+use Rattle.oc_target.proofs.{MeetsCoff.{natural, align_same, fitted_common}, MeetsConditions.{section_count_met, section_met, symbol_met}}
 use Rattle.oc_target.proofs.{MeetsCounts.{symbols_bounded, bounded_object}, MeetsGroups.{no_groups}, MeetsMach.{alone}, MeetsMachKinds.{IsOmfTag, omf_named}}
-use Rattle.oc_target.proofs.{MeetsParts.{taken_alike}, MeetsRelocs.{no_error, reloc_meets}, MeetsRows.{found_there, of_table}}
+use Rattle.oc_target.proofs.{MeetsParts.{taken_alike}, MeetsRelocs.{no_error, reloc_meets}, MeetsRows.{of_table}}
 use Rattle.oc_neutral.proofs.{Positions.{each_at}, ShiftLemmas.{four_bytes_hold}}
 
 -- an alignment that OMF leaves as it is, is one of its own

@@ -7,6 +7,7 @@ use Rattle.oc_base.specs.{declared.format.Format.{Format}, declared.format.Forma
 use Rattle.oc_linking.specs.{declared.terms.Kind.{Kind}, declared.terms.Kind.TheVariants.{Zero}, declared.terms.Less.{Less}, declared.terms.Base.{Base}}
 use Rattle.oc_linking.specs.declared.terms.Base.TheVariants.{Address, Slot, GotBase, HomeNumber}
 use Rattle.oc_linking.specs.declared.terms.Fallback.TheVariants as fallback
+use Rattle.oc_linking.proofs.Testing.{any_passes}
 use Rattle.oc_algebra.specs.declared.form.Form.{Form}
 use Rattle.oc_neutral.specs.{Tests.{is_cut, is_steady, is_unsteady_name}, KindRules.{has_nul}, declared.section.Section.{Section}}
 use Rattle.oc_neutral.specs.{declared.symbol.Symbol.{Symbol}, Building.{is_zero}, Faces.{key_of}, Invariants.{HasItsBytes, IsAlign}}
@@ -34,16 +35,6 @@ is_nothing (Some x) e = absurd (true≢false (sym e))
 pub is_something : {X : Type 0} (o : Option X) → is_none o ≡ false → (x : X) × (o ≡ Some x)
 is_something None e = absurd (true≢false e)
 is_something (Some x) e = (x, refl)
-
--- one of a list passes
-pub any_passes : {X : Type 0} (test : X → Bool) (xs : List X) → list_any test xs ≡ true → (k : ℕ) × (x : X) × (slice_get xs k ≡ Some x) × (test x ≡ true)
-any_passes test [] e = absurd (true≢false (sym e))
-any_passes {X} test (x ∷ xs) e = by (test x) refl (any_passes test xs) e
-  where
-    by : (b : Bool) → test x ≡ b → (list_any test xs ≡ true → (k : ℕ) × (y : X) × (slice_get xs k ≡ Some y) × (test y ≡ true)) → (b || list_any test xs) ≡ true
-        → (k : ℕ) × (y : X) × (slice_get (x ∷ xs) k ≡ Some y) × (test y ≡ true)
-    by true h rest e = (0, x, refl, h)
-    by false h rest e = let r = rest e in (suc r.0, r.1, r.2, r.3)
 
 -- a section that is not cut
 pub uncut : (n : Object) (s : Section) → is_cut n s.name s ≡ false → IsUncut n s

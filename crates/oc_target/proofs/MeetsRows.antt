@@ -8,6 +8,7 @@ use Rattle.oc_linking.specs.{declared.terms.Check.TheVariants.{Wrap, Signed, Uns
 use Rattle.oc_linking.specs.{declared.terms.Hint.TheVariants.{Plain, Call}, declared.terms.Base.{Base}}
 use Rattle.oc_linking.specs.{declared.terms.Base.TheVariants.{Address, Slot, GotBase, HomeNumber}, declared.terms.Less.{Less}, Numbers.{or_else}}
 use Rattle.oc_linking.specs.declared.terms.Less.TheVariants as less
+use Rattle.oc_linking.proofs.Testing.{found_there}
 use Rattle.oc_algebra.specs.declared.form.Form.{Form}
 use Rattle.oc_target.specs.Meets.{has_calls, IsTakenBy, IsRowFor}
 use Rattle.oc_neutral.specs.RelocTables.{rows_of}
@@ -37,16 +38,6 @@ hint_is a b e = grind arith
 -- what holds of each row of a table, as two lists are computed
 pub of_table : {X : Type 0} (f g : Row → X) (rows : List Row) (k : ℕ) (row : Row) → map f rows ≡ map g rows → slice_get rows k ≡ Some row → f row ≡ g row
 of_table f g rows k row same here = images_same f g rows rows same k row row here here
-
--- what a search finds is there, and passes
-pub found_there : {X : Type 0} (test : X → Bool) (xs : List X) (x : X) → find test xs ≡ Some x → (k : ℕ) × (slice_get xs k ≡ Some x) × (test x ≡ true)
-found_there test [] x e = absurd (none-some x e)
-found_there {X} test (y ∷ xs) x e = by (test y) refl (λ h. found_there test xs x h) e
-  where
-    by : (b : Bool) → test y ≡ b → (find test xs ≡ Some x → (k : ℕ) × (slice_get xs k ≡ Some x) × (test x ≡ true)) → cond b (Some y) (find test xs) ≡ Some x
-        → (k : ℕ) × (slice_get (y ∷ xs) k ≡ Some x) × (test x ≡ true)
-    by true t rest h = (0, h, ap test (sym (same_Some y x h)) ∙ t)
-    by false t rest h = let r = rest h in (suc r.0, r.1, r.2)
 
 -- what is known of a row that takes this, and has the hint or none
 pub record IsFoundRow (format : Format) (form : Form) (wanted : Hint) (t : Taken) (row : Row) : Type 0 where

@@ -6,7 +6,7 @@ use Rattle.std.proofs.Math.Bool.{or-false}
 use Rattle.oc_omf_judge.specs.Starts.{is_among, is_start}
 use Rattle.oc_omf_judge.proofs.StartLemmas.{any_more, start_taken}
 use Rattle.oc_omf_judge.proofs.starts.Starts.take_up.Goals as goal
-use Rattle.oc_target.proofs.Marking.{or_assoc}
+use Rattle.std.proofs.Math.Bool.{or_assoc}
 
 pub loop-place-init : goal.loop-place-init
 loop-place-init c = λ k. sym (or-false (is_start c.args.self.now k))
