@@ -8,7 +8,7 @@ use Rattle.oc_runs.specs.declared.input.InputFault.TheVariants as input
 use Rattle.oc_runs.specs.{Ends.{IsWordless}, Refusals.{HasRefusal}, States.{State, IsRefusal, status_by}, Texts.{Tells}}
 use Rattle.oc_linker.specs.{declared.linking.LinkFault.{LinkFault}, Causes.{Explains, IsLinkReported}}
 use Rattle.oc_linker.specs.Outcomes.{Outcome, Absent, Refusal, Misplacement, LinkText, object_refusal, status_for}
-use Rattle.oc_linker.specs.{Runs.{ComesOf, DoesLink, IsAbsence, IsExact, IsLinking}, Texts.{long_text, placement_text, words_text}}
+use Rattle.oc_linker.specs.{Runs.{ComesOf, DoesLink, IsAbsence, IsExactLink, IsLinking}, Texts.{long_text, placement_text, words_text}}
 use Rattle.oc_linker.specs.declared.linking.LinkFault.TheVariants as fault
 use Rattle.oc_linker.proofs.LinkLemmas.{refusal_comes}
 
@@ -47,7 +47,7 @@ not_9 is = elim is [ inl e ↦ omega (arith, e) | inr (inl e) ↦ omega (arith, 
 
 module _ (object placement : List ℕ) (files : Option Held) where
   -- what comes of two files decides the status
-  exact_by : (x : Outcome) (status : ℕ) → ForSome files (ComesOf object placement x) → status ≡ status_for x → IsExact object placement files status
+  exact_by : (x : Outcome) (status : ℕ) → ForSome files (ComesOf object placement x) → status ≡ status_for x → IsExactLink object placement files status
   exact_by x status comes named = λ m told. inr (named ∙ sym (ap status_for (comes m told)))
 
   -- and whether a file is absent

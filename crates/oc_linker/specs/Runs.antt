@@ -34,8 +34,8 @@ module _ (object placement : List ℕ) where
     pub shown : TakesPrefix text before.shown after.shown
 
   -- where contracts see the files, the status is that of what comes of the two, or 7
-  abbrev pub IsExact : Option Held → ℕ → Type 0
-  IsExact files status = ForSome files (λ m. (status ≡ 7) ⊎ (status ≡ status_for (outcome_of (file_of object m) (file_of placement m))))
+  abbrev pub IsExactLink : Option Held → ℕ → Type 0
+  IsExactLink files status = ForSome files (λ m. (status ≡ 7) ⊎ (status ≡ status_for (outcome_of (file_of object m) (file_of placement m))))
 
   -- the object is linked at the placement
   pub record IsLinking (before : State) (status : ℕ) (after : State) : Type 0 where
@@ -46,7 +46,7 @@ module _ (object placement : List ℕ) where
     pub misplaced : status ≡ 9 → TellsMisplacement before after
     pub linked : status ≡ 0 → ShowsText before after
     pub partly : status ≡ 6 → ShowsPrefix before after
-    pub exact : IsSteady before.read_faults after.read_faults → IsSteady before.out_faults after.out_faults → IsExact before.held status
+    pub exact : IsSteady before.read_faults after.read_faults → IsSteady before.out_faults after.out_faults → IsExactLink before.held status
 
 -- ... of any words
 
