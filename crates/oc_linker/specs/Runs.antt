@@ -2,7 +2,7 @@
 use Rattle.std.specs.{Prelude.{◌≡◌, ℕ, ◌⊎◌, List, [], ◌∷◌, Option}, Option.{ForSome, IsSomeAnd}}
 use Rattle.oc_outside.specs.{Causes.{IsSteady, Rose}, Held.{Held, file_of}, Texts.{grown, TakesPrefix}}
 use Rattle.oc_runs.specs.{Ends.{IsEnd, IsWordless}, Refusals.{TellsRefusal}, States.{State, IsRefusal}, Texts.{Tells}}
-use Rattle.oc_linker.specs.{Outcomes.{Outcome, Absent, Misplacement, LinkText, object_refusal, outcome_of, status_for}, Texts.{words_text}}
+use Rattle.oc_linker.specs.{Outcomes.{Outcome, Absent, Misplacement, LinkText, link_refusal, outcome_of, status_for}, Texts.{words_text}}
 
 -- ... of two names
 
@@ -40,7 +40,7 @@ module _ (object placement : List ℕ) where
   -- the object is linked at the placement
   pub record IsLinking (before : State) (status : ℕ) (after : State) : Type 0 where
     pub words : status ≡ 3 → ⊥
-    pub refused : IsRefusal status → TellsRefusal object_refusal object before status after
+    pub refused : IsRefusal status → TellsRefusal link_refusal object before status after
     pub unread : status ≡ 4 → Rose before.read_faults after.read_faults ⊎ IsAbsence before.held
     pub absent : IsAbsence before.held → (status ≡ 4) ⊎ (status ≡ 7)
     pub misplaced : status ≡ 9 → TellsMisplacement before after
