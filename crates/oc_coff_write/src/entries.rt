@@ -19,7 +19,7 @@ ghost use Rattle.oc_coff.specs.Values as values;
 ghost use Rattle.oc_coff_file.specs.Lines as coff_lines;
 ghost use Rattle.oc_coff_write.specs.Entries.{AreAdded, entry_bytes, IsMadeOf, IsSectionAux, rows_in};
 ghost use Rattle.oc_coff_write.specs.Keys.{AreLeaders, key_position, leader_position};
-ghost use Rattle.oc_coff_write.specs.Lines.{line_in, AreLines, IsListed};
+ghost use Rattle.oc_coff_write.specs.Lines.{line_in, AreLines, IsAmongLines};
 ghost use Rattle.oc_coff_write.specs.Numbers.{IsNumbered, HasTag};
 ghost use Rattle.oc_coff_write.specs.Strings.{Holds, HoldsSymbolName, table_for};
 ghost use Rattle.oc_coff.specs.Values.{HasRoom};
@@ -296,7 +296,7 @@ fn add_line(
     requires coff { container_of neutral.now.format ≡ IsCoff }
     requires fitted { IsFitted neutral.now.format neutral.now }
     requires made { IsMadeOf (form_for neutral.now.format) neutral.now made }
-    requires listed { IsListed (form_for neutral.now.format) neutral.now line }
+    requires listed { IsAmongLines (form_for neutral.now.format) neutral.now line }
     ensures { OnOk result ((is : coff_lines.Line) → line_in neutral.now line ≡ Some is
         → AreAdded (form_for neutral.now.format) neutral.now is entries.old.items entries.new.items) }
 {
