@@ -20,7 +20,7 @@ module _ (input : List ℕ) where
     pub listed : (m : Held) → files ≡ Some m → IsSomeAnd (file_of input m) (λ b. ListsSymbols b text)
 
   -- the listing was shown
-  pub record IsShown (files : Option Held) (before now : Option (List ℕ)) : Type 0 where
+  pub record ShowsListing (files : Option Held) (before now : Option (List ℕ)) : Type 0 where
     pub text : List ℕ
     pub listing : IsListing files text
     pub shown : now ≡ grown text before
@@ -35,7 +35,7 @@ module _ (input : List ℕ) where
   pub record IsSymbols (before : State) (status : ℕ) (after : State) : Type 0 where
     pub judged : IsJudged listing_refusal input before status after
     pub exact : IsSteady before.read_faults after.read_faults → IsSteady before.out_faults after.out_faults → IsExact listing_refusal input before.held status
-    pub listed : status ≡ 0 → IsShown before.held before.shown after.shown
+    pub listed : status ≡ 0 → ShowsListing before.held before.shown after.shown
     pub partly : status ≡ 6 → IsPartlyShown before.held before.shown after.shown
     pub output : status ≡ 5 → ⊥
     pub held : after.held ≡ before.held
