@@ -13,7 +13,7 @@ ghost use Rattle.oc_macho_read.specs.Adding.{IsClean};
 ghost use Rattle.oc_macho_read.specs.Built as built;
 
 use crate::added_relocs::add_relocations;
-use crate::aims::Known;
+use crate::aims::RelocContext;
 use crate::built_sections::add_sections;
 use crate::built_symbols::add_symbols;
 use oc_base::{NoMemory, Stop, Word};
@@ -50,7 +50,7 @@ fn object_of(alloc: Global, file: &[u8], found: &Found, keep: &Keep) -> Result<N
     builder.is_draft();
     // the proof asks that there are few
     let _count = found.frame.symbol_count();
-    let known = Known {
+    let known = RelocContext {
         keep: *keep,
         positions: &positions,
         holders: &found.holders,
