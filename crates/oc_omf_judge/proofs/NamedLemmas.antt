@@ -12,7 +12,7 @@ use Rattle.oc_omf_judge.specs.Whole.{IsWhole, entries, meaning, tables}
 use Rattle.oc_omf.specs.{declared.structures.Method.{Method}, Structures.{External, Public}, Tables.{Tables, indexed}}
 use Rattle.oc_omf.specs.Symbols.{Mention, binding_of, communal_of, external_mention, mentions_in, number_of, public_binding, public_mention, public_of, same_symbol, symbol_of, symbols_in}
 use Rattle.oc_omf.specs.Targets.{external_at, meaning_of, section_target, target_of}
-use Rattle.oc_omf_judge.specs.declared.named.Named.TheVariants as named
+use Rattle.oc_omf_judge.specs.declared.named.Referent.TheVariants as named
 use Rattle.oc_omf_judge.proofs.MentionLemmas.{IsAmong, external_mentioned, numbered_among, same_is}
 
 -- ... symbols
