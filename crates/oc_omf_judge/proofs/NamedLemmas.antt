@@ -6,7 +6,7 @@ use denote.Ref.{Bor}
 use Rattle.oc_linking.specs.{declared.terms.Binding.TheVariants.{Undefined, Common}, Rules.{Symbolic, Sectional, Named as Shown}, Values.{numbered}}
 use Rattle.oc_linking.specs.Targets.{Target, named_by, symbol_target}
 use Rattle.oc_neutral.specs.Powers.{natural_align}
-use Rattle.oc_omf_judge.specs.{declared.earlier.External.{External as Mentioned}, Held.{Held, value_at}, EarlierSymbols.{mention_of}}
+use Rattle.oc_omf_judge.specs.{declared.earlier.SeenExternal.{SeenExternal}, Held.{Held, value_at}, EarlierSymbols.{mention_of}}
 use Rattle.oc_omf_judge.specs.{declared.whole.Whole.{Whole}, Locals.{AreLocals}, Named.{named_external, named_of, named_symbol, section_at, shown}}
 use Rattle.oc_omf_judge.specs.Whole.{IsWhole, entries, meaning, tables}
 use Rattle.oc_omf.specs.{declared.structures.Method.{Method}, Structures.{External, Public}, Tables.{Tables, indexed}}
@@ -132,7 +132,7 @@ external_kept w is k =
     ms : List Mention
     ms = mentions_in (entries w)
 
-    by : (o : Option Mentioned) → option_map (shown ms) (option_map (λ (x : Mentioned). named_symbol w.locals x.local x.name) o) ≡ option_map (shown_symbol ms w.locals) (option_map mention_of o)
+    by : (o : Option SeenExternal) → option_map (shown ms) (option_map (λ (x : SeenExternal). named_symbol w.locals x.local x.name) o) ≡ option_map (shown_symbol ms w.locals) (option_map mention_of o)
     by None = refl
     by (Some x) = ap (λ (n : Shown). Some n) (shown_is ms w.locals x.local x.name)
 

@@ -5,7 +5,7 @@ use Rattle.std.proofs.lemmas.Option.{none-some}
 use denote.Ref.{Bor}
 use Rattle.oc_linking.specs.{Rules.{Sectional, Named as Shown}, Targets.{Target}}
 use Rattle.oc_neutral.specs.Omf.Relocs.{ByFlat, ByTarget, BySelf, fixup_row}
-use Rattle.oc_omf_judge.specs.{declared.earlier.External.{External as Mentioned}, Held.{Held, value_at}, EarlierSymbols.{mention_of}}
+use Rattle.oc_omf_judge.specs.{declared.earlier.SeenExternal.{SeenExternal}, Held.{Held, value_at}, EarlierSymbols.{mention_of}}
 use Rattle.oc_omf_judge.specs.{declared.named.Referent.{Referent}, declared.whole.Whole.{Whole}}
 use Rattle.oc_omf_judge.specs.Named.{named_external, named_of, named_symbol, same, section_at, shown}
 use Rattle.oc_omf_judge.specs.Whole.{IsWhole, entries, is_flat_group, meaning, tables}
@@ -43,7 +43,7 @@ symbol_mentioned ms locals true name there = by (value_at locals name.now)
     by None = there
 
 -- an external that is kept is that of its mention
-kept_external : (w : Whole) → IsWhole w → (k : ℕ) (x : Mentioned) → indexed w.front.seen.externals.items k ≡ Some x → IsAmong (mentions_in (entries w)) (mention_of x)
+kept_external : (w : Whole) → IsWhole w → (k : ℕ) (x : SeenExternal) → indexed w.front.seen.externals.items k ≡ Some x → IsAmong (mentions_in (entries w)) (mention_of x)
 kept_external w is k x here =
     by (indexed (tables w).externals k) refl
     (sym (ap (option_map mention_of) here) ∙ sym (indexed-map mention_of w.front.seen.externals.items k) ∙ ap (λ xs. indexed xs k) is.front_is.seen_is.externals_are ∙ indexed-map external_mention (tables w).externals k)
@@ -63,8 +63,8 @@ external_kept_mentioned w is k = by (indexed w.front.seen.externals.items k) (ke
     held (Some n) m = n
     held None m = m
 
-    by : (o : Option Mentioned) → ((x : Mentioned) → o ≡ Some x → IsAmong (mentions_in (entries w)) (mention_of x))
-        → (n : Referent) → option_map (λ (x : Mentioned). named_symbol w.locals x.local x.name) o ≡ Some n → IsMentioned (mentions_in (entries w)) n
+    by : (o : Option SeenExternal) → ((x : SeenExternal) → o ≡ Some x → IsAmong (mentions_in (entries w)) (mention_of x))
+        → (n : Referent) → option_map (λ (x : SeenExternal). named_symbol w.locals x.local x.name) o ≡ Some n → IsMentioned (mentions_in (entries w)) n
     by None there n e = absurd (none-some n e)
     by (Some x) there n e = subst (λ (m : Referent). IsMentioned (mentions_in (entries w)) m) (ap (λ o. held o n) e) (symbol_mentioned (mentions_in (entries w)) w.locals x.local x.name (there x refl))
 

@@ -3,7 +3,7 @@ use Rattle.std.proofs.Common.{◌≡◌, ℕ, Bool, true, false, cond, ◌&&◌,
 use Rattle.std.specs.{Prelude.{bytes_eq, is_some}, List.{list_any}, Map.{update}, Option.{option_map_or}}
 use Rattle.std.proofs.lemmas.{Bool.Decides.{nat_tests}, List.{map-append}, List.Folds.{list_any-append}, Slice.Eq.{bytes_eq-Decides}}
 use Rattle.std.proofs.Math.Bool.{or-false}
-use Rattle.oc_omf_judge.specs.{declared.earlier.External.{External as Mentioned}, declared.earlier.EarlierSymbols.{EarlierSymbols}, Held.{Held, value_at}}
+use Rattle.oc_omf_judge.specs.{declared.earlier.SeenExternal.{SeenExternal}, declared.earlier.EarlierSymbols.{EarlierSymbols}, Held.{Held, value_at}}
 use Rattle.oc_omf_judge.specs.EarlierSymbols.{AreCommunal, AreNamed, AreEarlierSymbols, external_behind, external_with, mention_of, public_behind}
 use Rattle.oc_omf.specs.{declared.structures.Communal.{Communal}, Structures.{Public, External}, Tables.{Tables}}
 use Rattle.oc_omf.specs.Symbols.{agree, external_mention, public_mention, same_symbol}
@@ -107,7 +107,7 @@ undefined_is all known y names = by y.local refl
     by false e = rw e refl
 
 -- an external more
-pub external_seen : (t : Tables) (old new : EarlierSymbols) (x : Mentioned) (y : External) → AreEarlierSymbols t old → mention_of x ≡ external_mention y → y.communal ≡ None → new.externals.items ≡ old.externals.items ++ x ∷ []
+pub external_seen : (t : Tables) (old new : EarlierSymbols) (x : SeenExternal) (y : External) → AreEarlierSymbols t old → mention_of x ≡ external_mention y → y.communal ≡ None → new.externals.items ≡ old.externals.items ++ x ∷ []
     → new.segments ≡ old.segments → new.groups ≡ old.groups → new.locals ≡ old.locals → new.globals ≡ old.globals → new.communals ≡ old.communals
     → AreEarlierSymbols (record t { externals = t.externals ++ y ∷ [] }) new
 external_seen t old new x y is same none e s g l o c = record {
@@ -130,7 +130,7 @@ external_seen t old new x y is same none e s g l o c = record {
     nothing false false = refl
 
 -- a communal more, whose length is held
-pub communal_seen : (t : Tables) (old new : EarlierSymbols) (x : Mentioned) (y : External) (d : Communal) → AreEarlierSymbols t old → mention_of x ≡ external_mention y → y.communal ≡ Some d
+pub communal_seen : (t : Tables) (old new : EarlierSymbols) (x : SeenExternal) (y : External) (d : Communal) → AreEarlierSymbols t old → mention_of x ≡ external_mention y → y.communal ≡ Some d
     → option_map_or (λ l. not (nat_eq d.length l)) (value_at old.communals y.name) false ≡ false
     → ((other : List ℕ) → value_at new.communals other ≡ update bytes_eq (value_at old.communals) y.name (Some d.length) other) → new.externals.items ≡ old.externals.items ++ x ∷ []
     → new.segments ≡ old.segments → new.groups ≡ old.groups → new.locals ≡ old.locals → new.globals ≡ old.globals → AreEarlierSymbols (record t { externals = t.externals ++ y ∷ [] }) new

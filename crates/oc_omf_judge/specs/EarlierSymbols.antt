@@ -4,7 +4,7 @@ use Rattle.std.specs.Option.{option_map_or}
 use Rattle.oc_base.specs.{declared.code.Code.TheVariants.{SymbolPastEnd, SymbolKind, DuplicateName, BadSymbol}, declared.fault.Fault.{Fault}}
 use Rattle.oc_base.specs.{declared.stop.Stop.{Stop}, Stops.{IsStop}}
 use Rattle.oc_linking.specs.{Numbers.{or_else}, FirstFault.{Condition, first_broken, stage_fault}}
-use Rattle.oc_omf_judge.specs.{declared.earlier.External.{External as Mentioned}, declared.earlier.EarlierSymbols.{EarlierSymbols}}
+use Rattle.oc_omf_judge.specs.{declared.earlier.SeenExternal.{SeenExternal}, declared.earlier.EarlierSymbols.{EarlierSymbols}}
 use Rattle.oc_omf_judge.specs.{declared.section_stage.EntryPlace.{EntryPlace}, Defined.{and_entry}, Held.{Held, value_at}}
 use Rattle.oc_omf.specs.{declared.structures.Communal.{Communal}, declared.topics.Topic.{Topic}, Cursor.{Read, each_read}}
 use Rattle.oc_omf.specs.{Structures.{Group, Public, External, communal_read, external_read, public_read}, Entries.{Entry, all_read, in_file}, Tables.{Tables}}
@@ -22,7 +22,7 @@ abbrev pub AreCommunal : List External → Held → Type 0
 AreCommunal externals held = (name : List ℕ) (c : Communal) → list_any (is_other_length name c) externals ≡ option_map_or (λ l. not (nat_eq c.length l)) (value_at held name) false
 
 -- what an external mentions
-abbrev pub mention_of : Mentioned → Mention
+abbrev pub mention_of : SeenExternal → Mention
 mention_of x = record { local = x.local; name = x.name.now }
 
 -- what is kept is what came before

@@ -2,7 +2,7 @@
 use Rattle.std.specs.{Prelude.{ℕ, ◌-◌, Bool, true, false, ◌&&◌, nat_eq, bytes_eq, if◌then◌else◌, List, Option, Some, None}, Option.{option_map, option_map_or}}
 use denote.Ref.{Bor}
 use Rattle.oc_linking.specs.Rules.{Symbolic, Sectional, Named as Shown}
-use Rattle.oc_omf_judge.specs.{declared.earlier.External.{External}, Held.{Held, value_at}, declared.named.Referent.{Referent}, declared.whole.Whole.{Whole}}
+use Rattle.oc_omf_judge.specs.{declared.earlier.SeenExternal.{SeenExternal}, Held.{Held, value_at}, declared.named.Referent.{Referent}, declared.whole.Whole.{Whole}}
 use Rattle.oc_omf.specs.{declared.structures.Method.{Method}, Symbols.{Mention, agree, number_of}, Tables.{indexed}}
 use Rattle.oc_omf_judge.specs.declared.named.Referent.TheVariants as named
 
@@ -17,7 +17,7 @@ named_symbol locals true name = option_map_or section_at (value_at locals name.n
 
 -- the external of an index
 abbrev pub named_external : Whole → ℕ → Option Referent
-named_external w index = option_map (λ (x : External). named_symbol w.locals x.local x.name) (indexed w.front.seen.externals.items index)
+named_external w index = option_map (λ (x : SeenExternal). named_symbol w.locals x.local x.name) (indexed w.front.seen.externals.items index)
 
 -- what a method names
 abbrev pub named_of : Whole → Method → Option Referent

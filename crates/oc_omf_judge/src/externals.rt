@@ -5,7 +5,7 @@ ghost use Rattle.oc_base.specs.declared.limits.TheConstants.{MOST_INPUT};
 ghost use Rattle.oc_omf_judge.specs.Held.{Held, value_at};
 ghost use Rattle.oc_omf_judge.specs.EarlierSymbols as specs;
 
-use crate::earlier::{EarlierSymbols, External};
+use crate::earlier::{EarlierSymbols, SeenExternal};
 use crate::held::{take_up, value_of};
 use crate::publics::{cut_fault, spot_in};
 use crate::section_stage::EntryPlace;
@@ -39,7 +39,7 @@ fn take_external<'a>(
     if name.is_empty() {
         return Err(Stop::Refused(symbol_fault(here, Code::SymbolKind)));
     }
-    seen.externals.push(External { local, name })?;
+    seen.externals.push(SeenExternal { local, name })?;
     Ok(())
 }
 
@@ -94,7 +94,7 @@ fn take_communal<'a>(
     if is_other(before, communal.length) {
         return Err(Stop::Refused(symbol_fault(here, Code::DuplicateName)));
     }
-    seen.externals.push(External { local: false, name })?;
+    seen.externals.push(SeenExternal { local: false, name })?;
     Ok(())
 }
 
