@@ -11,7 +11,7 @@ ghost use Rattle.oc_neutral.specs.Families.{container_of};
 ghost use Rattle.oc_neutral.specs.Family.{IsCoff};
 ghost use Rattle.oc_target.specs.Fitted.{IsFitted};
 ghost use Rattle.oc_neutral.specs.Objects.{Object};
-ghost use Rattle.oc_neutral.specs.declared.section.Section.{Section as Held};
+ghost use Rattle.oc_neutral.specs.declared.section.Section.{Section as HeldSection};
 ghost use Rattle.oc_shelf.specs.Writing.Parts.{Laid};
 ghost use Rattle.oc_coff_file.specs.Canonical as canonical;
 ghost use Rattle.oc_coff_file.specs.Canonical.{entry_rows, line_entry, tag_of};
@@ -207,8 +207,8 @@ fn add_section(
     requires there { position < length neutral.now.sections }
     requires few { length neutral.now.sections < 2 ^ 31 }
     requires made { IsMadeOf (form_for neutral.now.format) neutral.now made }
-    requires held { (s : Held) → slice_get neutral.now.sections position ≡ Some s → HoldsSymbolName made.names.now s.name }
-    ensures { OnOk result ((s : Held) → slice_get neutral.now.sections position ≡ Some s
+    requires held { (s : HeldSection) → slice_get neutral.now.sections position ≡ Some s → HoldsSymbolName made.names.now s.name }
+    ensures { OnOk result ((s : HeldSection) → slice_get neutral.now.sections position ≡ Some s
         → AreAdded (form_for neutral.now.format) neutral.now (coff_lines.SectionLine position s) entries.old.items entries.new.items) }
 {
     let symbol = section_entry(made.names, near, position, neutral.section(position));

@@ -6,7 +6,7 @@ use denote.Ref.{Bor}
 use Rattle.oc_linking.specs.{declared.terms.Binding.TheVariants.{Undefined, Common}, Rules.{Symbolic, Sectional, Named as Shown}, Values.{numbered}}
 use Rattle.oc_linking.specs.Targets.{Target, named_by, symbol_target}
 use Rattle.oc_neutral.specs.Powers.{natural_align}
-use Rattle.oc_omf_judge.specs.{declared.earlier.SeenExternal.{SeenExternal}, Held.{Held, value_at}, EarlierSymbols.{mention_of}}
+use Rattle.oc_omf_judge.specs.{declared.earlier.SeenExternal.{SeenExternal}, NameNumbers.{NameNumbers, value_at}, EarlierSymbols.{mention_of}}
 use Rattle.oc_omf_judge.specs.{declared.whole.Whole.{Whole}, Locals.{AreLocals}, Named.{named_external, named_of, named_symbol, section_at, shown}}
 use Rattle.oc_omf_judge.specs.Whole.{IsWhole, entries, meaning, tables}
 use Rattle.oc_omf.specs.{declared.structures.Method.{Method}, Structures.{External, Public}, Tables.{Tables, indexed}}
@@ -33,10 +33,10 @@ outside k (Some size) = refl
 outside k None = refl
 
 -- what is shown of a symbol, by whether this module alone sees it
-abbrev shown_symbol : List Mention → Held → Mention → Shown
+abbrev shown_symbol : List Mention → NameNumbers → Mention → Shown
 shown_symbol ms locals x = if x.local then option_map_or (λ (s : ℕ). Sectional (s - 1)) (value_at locals x.name) (Symbolic (number_of ms x)) else Symbolic (number_of ms x)
 
-shown_is : (ms : List Mention) (locals : Held) (local : Bool) (name : Bor (List ℕ)) → shown ms (named_symbol locals local name) ≡ shown_symbol ms locals (record { local = local; name = name.now })
+shown_is : (ms : List Mention) (locals : NameNumbers) (local : Bool) (name : Bor (List ℕ)) → shown ms (named_symbol locals local name) ≡ shown_symbol ms locals (record { local = local; name = name.now })
 shown_is ms locals false name = refl
 shown_is ms locals true name = by (value_at locals name.now)
   where
@@ -45,7 +45,7 @@ shown_is ms locals true name = by (value_at locals name.now)
     by None = refl
 
 -- what its binding names
-named_binding : (t : Tables) (ms : List Mention) (locals : Held) (x : Mention) → AreLocals t.publics locals → named_by (number_of ms x) (binding_of t x) ≡ Some (shown_symbol ms locals x)
+named_binding : (t : Tables) (ms : List Mention) (locals : NameNumbers) (x : Mention) → AreLocals t.publics locals → named_by (number_of ms x) (binding_of t x) ≡ Some (shown_symbol ms locals x)
 unfolding binding_of
 named_binding t ms locals x are = by x.local refl (public_of t x) refl
   where

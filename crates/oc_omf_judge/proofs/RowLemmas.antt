@@ -5,7 +5,7 @@ use Rattle.std.proofs.lemmas.Option.{none-some}
 use denote.Ref.{Bor}
 use Rattle.oc_linking.specs.{Rules.{Sectional, Named as Shown}, Targets.{Target}}
 use Rattle.oc_neutral.specs.Omf.Relocs.{ByFlat, ByTarget, BySelf, fixup_row}
-use Rattle.oc_omf_judge.specs.{declared.earlier.SeenExternal.{SeenExternal}, Held.{Held, value_at}, EarlierSymbols.{mention_of}}
+use Rattle.oc_omf_judge.specs.{declared.earlier.SeenExternal.{SeenExternal}, NameNumbers.{NameNumbers, value_at}, EarlierSymbols.{mention_of}}
 use Rattle.oc_omf_judge.specs.{declared.named.Referent.{Referent}, declared.whole.Whole.{Whole}}
 use Rattle.oc_omf_judge.specs.Named.{named_external, named_of, named_symbol, same, section_at, shown}
 use Rattle.oc_omf_judge.specs.Whole.{IsWhole, entries, is_flat_group, meaning, tables}
@@ -34,7 +34,7 @@ same_shown ms (named.Symbol local name) (named.Section k) here there = refl
 same_shown ms (named.Symbol local name) (named.Symbol other_local other_name) here there =
     sym (same_number ms (record { local = local; name = name.now }) (record { local = other_local; name = other_name.now }) here there)
 
-symbol_mentioned : (ms : List Mention) (locals : Held) (local : Bool) (name : Bor (List ℕ)) → IsAmong ms (record { local = local; name = name.now }) → IsMentioned ms (named_symbol locals local name)
+symbol_mentioned : (ms : List Mention) (locals : NameNumbers) (local : Bool) (name : Bor (List ℕ)) → IsAmong ms (record { local = local; name = name.now }) → IsMentioned ms (named_symbol locals local name)
 symbol_mentioned ms locals false name there = there
 symbol_mentioned ms locals true name there = by (value_at locals name.now)
   where

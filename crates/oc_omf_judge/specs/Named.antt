@@ -2,7 +2,7 @@
 use Rattle.std.specs.{Prelude.{ℕ, ◌-◌, Bool, true, false, ◌&&◌, nat_eq, bytes_eq, if◌then◌else◌, List, Option, Some, None}, Option.{option_map, option_map_or}}
 use denote.Ref.{Bor}
 use Rattle.oc_linking.specs.Rules.{Symbolic, Sectional, Named as Shown}
-use Rattle.oc_omf_judge.specs.{declared.earlier.SeenExternal.{SeenExternal}, Held.{Held, value_at}, declared.named.Referent.{Referent}, declared.whole.Whole.{Whole}}
+use Rattle.oc_omf_judge.specs.{declared.earlier.SeenExternal.{SeenExternal}, NameNumbers.{NameNumbers, value_at}, declared.named.Referent.{Referent}, declared.whole.Whole.{Whole}}
 use Rattle.oc_omf.specs.{declared.structures.Method.{Method}, Symbols.{Mention, agree, number_of}, Tables.{indexed}}
 use Rattle.oc_omf_judge.specs.declared.named.Referent.TheVariants as named
 
@@ -11,7 +11,7 @@ abbrev pub section_at : ℕ → Referent
 section_at index = named.Section (index - 1)
 
 -- a symbol: the section of one that this module alone sees and defines
-abbrev pub named_symbol : Held → Bool → Bor (List ℕ) → Referent
+abbrev pub named_symbol : NameNumbers → Bool → Bor (List ℕ) → Referent
 named_symbol locals false name = named.Symbol false name
 named_symbol locals true name = option_map_or section_at (value_at locals name.now) (named.Symbol true name)
 

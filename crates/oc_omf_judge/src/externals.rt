@@ -2,7 +2,7 @@
 ghost use Rattle.std.specs.Prelude.{◌≡◌, ◌+◌, ◌≤◌, ◌&&◌, length, false, is_some, not, nat_eq, None, OnOk, IfErr};
 ghost use Rattle.std.specs.Option.{option_map_or};
 ghost use Rattle.oc_base.specs.declared.limits.TheConstants.{MOST_INPUT};
-ghost use Rattle.oc_omf_judge.specs.Held.{Held, value_at};
+ghost use Rattle.oc_omf_judge.specs.NameNumbers.{NameNumbers, value_at};
 ghost use Rattle.oc_omf_judge.specs.EarlierSymbols as specs;
 
 use crate::earlier::{EarlierSymbols, SeenExternal};
@@ -118,8 +118,8 @@ pub(crate) fn take_communals<'a>(
     contents: &View<'a>,
 ) -> Result<(), Stop>
     requires { spot.place + length contents.now ≤ MOST_INPUT }
-    ensures taken { OnOk result ((known : Held) → specs.AreExternalsTaken known seen.old spot.index (specs.communals_at spot.place contents.now) seen.new) }
-    ensures stop { IfErr result (λ s. (known : Held) → specs.AreExternalsStopped known seen.old spot.index (specs.communals_at spot.place contents.now) s) }
+    ensures taken { OnOk result ((known : NameNumbers) → specs.AreExternalsTaken known seen.old spot.index (specs.communals_at spot.place contents.now) seen.new) }
+    ensures stop { IfErr result (λ s. (known : NameNumbers) → specs.AreExternalsStopped known seen.old spot.index (specs.communals_at spot.place contents.now) s) }
 {
     let mut at = 0;
     while at < contents.len() {
