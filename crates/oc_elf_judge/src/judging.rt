@@ -14,7 +14,7 @@ ghost use Rattle.oc_elf.specs.SymbolRules.{symbol_stage};
 
 use crate::positions::{section_positions, symbol_positions};
 use crate::relocs::{Aims, check_table};
-use crate::section_stage::{Tables, check_sections, table_header};
+use crate::section_stage::{FoundTables, check_sections, table_header};
 use crate::sections::kind_of;
 use crate::symbol_stage::check_symbols;
 use crate::weight::{header_weight, weigh_symbols};
@@ -87,7 +87,7 @@ fn check_relocs(
 #[derive(Drop)]
 pub struct Found {
     /// What the section headers describe beside sections.
-    pub tables: Tables,
+    pub tables: FoundTables,
     /// The position of each section among the carried ones.
     pub sections: Slots,
     /// The position of each symbol among the carried ones.

@@ -26,7 +26,7 @@ const MODULE: &[u8] = b"objconv";
 
 /// What a file is made of.
 #[derive(Debug, Drop)]
-pub(crate) struct Tables {
+pub(crate) struct WrittenTables {
     /// The sections, with the numbers in their fields.
     pub(crate) sections: Vec<Section>,
     /// Their segments.
@@ -117,7 +117,7 @@ fn put_symbol(out: &mut Contents, symbol: &Symbol)
     put_public(out, base, symbol.name.as_slice(), offset);
 }
 
-impl Tables {
+impl WrittenTables {
     // puts the names from a position up to another
     fn put_names(&self, out: &mut Contents, from: u32, to: u32)
         requires sound { tables.AreSound self.now }

@@ -1,6 +1,6 @@
 //! What a plan holds of a file, where data are cut, and windows of a small file.
 use super::OmfParts;
-use crate::tables::Tables;
+use crate::tables::WrittenTables;
 use crate::writer::OmfWriter;
 use oc_base::Format;
 use oc_express::fit;
@@ -23,7 +23,7 @@ fn a_plan_does_not_keep_the_file(rt: HostRuntime) -> Result<(), Fail> {
     )?;
     let (parts, layout) = OmfWriter.plan(rt.alloc(), fitted)?.into_parts();
     let OmfParts {
-        tables: Tables {
+        tables: WrittenTables {
             sections,
             segments,
             names,
