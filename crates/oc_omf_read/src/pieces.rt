@@ -81,7 +81,10 @@ fn read_piece<'a>(
 
 /// The data of an entry, if it has some that are not cut. `NoMemory` where memory ran out. Linear in
 /// the entry.
-pub(crate) fn piece_of<'a>(alloc: Global, entry: &Entry<'a>) -> Result<Option<FoundPiece<'a>>, NoMemory>
+pub(crate) fn piece_of<'a>(
+    alloc: Global,
+    entry: &Entry<'a>,
+) -> Result<Option<FoundPiece<'a>>, NoMemory>
     ensures { IfOk result (λ piece. pieces.ArePieces piece (all_read (said entry.now).pieces)) }
 {
     match class_of(entry.kind) {

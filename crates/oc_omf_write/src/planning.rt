@@ -53,7 +53,11 @@ fn add_segments(entries: &mut Vec<Entry>, count: u32) -> Result<(), NoMemory>
 }
 
 // the entries of a file that is made of these, with these entries of its symbols
-fn entries_of(alloc: Global, tables: &WrittenTables, symbols: &[Entry]) -> Result<Vec<Entry>, NoMemory>
+fn entries_of(
+    alloc: Global,
+    tables: &WrittenTables,
+    symbols: &[Entry],
+) -> Result<Vec<Entry>, NoMemory>
     requires few { length tables.now.sections.items < 2 ^ 31 }
     requires names { length tables.now.names.items < 2 ^ 32 }
     requires sound { AreSound tables.now }

@@ -29,7 +29,11 @@ fn is_local(binding: Binding) -> bool
 }
 
 // lists the name of the symbol at a position, where it is not Local
-fn list_name<'a>(names: &mut Vec<NamedSymbol<'a>>, symbol: &'a Symbol, at: u32) -> Result<(), NoMemory>
+fn list_name<'a>(
+    names: &mut Vec<NamedSymbol<'a>>,
+    symbol: &'a Symbol,
+    at: u32,
+) -> Result<(), NoMemory>
     ensures { OnOk result (indexes.AddsName (parts.is_local symbol.now.binding) symbol.now.name at names.old.items names.new.items) }
 {
     if is_local(symbol.binding) {
