@@ -96,8 +96,8 @@ pub struct Found {
 
 /// Judges what comes after the file header, and gives what was found on the way.
 ///
-/// Stops exactly where there is a fault, with the first; or where memory ran out. The time is that
-/// of `judge`.
+/// Stops exactly where there is a fault, with the first; or where memory ran out, or the names or the
+/// tables weigh too much (`judge`). The time is that of `judge`.
 pub fn check_rest(alloc: Global, frame: &Frame, keep: &Keep) -> Result<Found, Stop>
     ensures clean { OnOk result (first_fault (rest_stages frame.now keep.now) ≡ None) }
     ensures stop { IfErr result (IsStop (first_fault (rest_stages frame.now keep.now))) }
