@@ -8,7 +8,7 @@ use Rattle.oc_made.specs.Files.{made_bytes}
 use Rattle.oc_making.proofs.Making.{made_is_accepted, made_is_short}
 use Rattle.oc_convert.specs.Dispatched.{dispatch_refusal, IsDispatched}
 use Rattle.oc_built.specs.Built.{built}
-use Rattle.objconv.specs.Making.{IsMadeFile, making_refusal}
+use Rattle.objconv.specs.Making.{IsMadeOutput, making_refusal}
 use Rattle.oc_runs.proofs.Refused.{rest_next}
 
 module _ (count : ℕ) (to : Format) (few : count ≤ 100000) (plain : is_many to ≡ false) where
@@ -17,7 +17,7 @@ module _ (count : ℕ) (to : Format) (few : count ≤ 100000) (plain : is_many t
   accepted = rest_next (dispatch_refusal built no_wishes to) (made_bytes count (word_for to)) (made_is_short (word_for to) count few) ∙ made_is_accepted to count plain few
 
   -- what is planned for it is the output
-  pub made_planned : (read : List ℕ) → read ≡ made_bytes count (word_for to) → (wishes : Wishes) → wishes ≡ no_wishes → (file : List ℕ) → IsDispatched built wishes to read file → IsMadeFile count to file
+  pub made_planned : (read : List ℕ) → read ≡ made_bytes count (word_for to) → (wishes : Wishes) → wishes ≡ no_wishes → (file : List ℕ) → IsDispatched built wishes to read file → IsMadeOutput count to file
   made_planned read same wishes none file dispatched = record {
     accepted = accepted;
     dispatched = subst (λ (b : List ℕ). IsDispatched built no_wishes to b file) same (subst (λ (w : Wishes). IsDispatched built w to read file) none dispatched);

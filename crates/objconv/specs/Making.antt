@@ -23,7 +23,7 @@ module _ (count : ℕ) (to : Format) where
   making_refusal = conversion_refusal no_wishes to made
 
   -- c is the output for it: it is not refused, c is the file that the writer of the target has for its object, fitted, and c links as it does
-  pub record IsMadeFile (c : List ℕ) : Type 0 where
+  pub record IsMadeOutput (c : List ℕ) : Type 0 where
     pub accepted : making_refusal ≡ None
     pub dispatched : IsDispatched built no_wishes to made c
 
@@ -31,21 +31,21 @@ module _ (count : ℕ) (to : Format) where
     -- the output holds the file, and all other files stay; the summary was shown
     pub record IsMade (before after : State) : Type 0 where
       pub file : List ℕ
-      pub planned : IsMadeFile file
+      pub planned : IsMadeOutput file
       pub files : after.held ≡ option_map (with_file output file) before.held
       pub shown : after.shown ≡ grown (summary_of count (length file)) before.shown
 
     -- the files are as they were, or the output holds a prefix of the file and all others stay; nothing was shown
     pub record IsPartlyMade (before after : State) : Type 0 where
       pub file : List ℕ
-      pub planned : IsMadeFile file
+      pub planned : IsMadeOutput file
       pub files : HasPart output file before.held after.held
       pub shown : after.shown ≡ before.shown
 
     -- the output holds the file, and all other files stay; a prefix of the summary was shown
     pub record IsPartlyTold (before after : State) : Type 0 where
       pub file : List ℕ
-      pub planned : IsMadeFile file
+      pub planned : IsMadeOutput file
       pub files : after.held ≡ option_map (with_file output file) before.held
       pub shown : TakesPrefix (summary_of count (length file)) before.shown after.shown
 

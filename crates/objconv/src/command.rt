@@ -19,13 +19,16 @@ use std::alloc::Global;
 /// - 0: done. A conversion's OUT holds the converted object, which links as the edited input does,
 ///   and nothing was shown; a listing was shown whole, and no file is changed; an object that was
 ///   made is in OUT, and how much was made was shown. Nothing was reported.
-/// - 1, 2, 8: the input, or what was made, has a first refusal, which is malformed, refused or a
-///   limit; its message was reported.
+/// - 1, 2, 8: the input has a first refusal, which is malformed, refused or a limit; its message was
+///   reported. Never where an object is made.
 /// - 3: the words are no job; it was reported which word is at fault, and nothing was read.
 /// - 4: a read failed, or IN is not held; never where an object is made. 5: a write failed; OUT is
 ///   as it was, or holds a prefix of the planned file. 6: standard output took a prefix of a
 ///   listing, or of how much was made, and then failed; OUT is whole where an object was made.
-///   7: memory ran out, before anything was written or shown.
+///   7: memory ran out, before anything was written or shown. On any machine it is also answered where the
+///   names in a file weigh more than 1 GiB, a name 64 more than its bytes, where all tables of relocations
+///   have more than 2^23 entries or a module of OMF more than 9,586,980 relocated fields, and where a
+///   listing has more than 2^29 bytes up to the end of a name (`oc_weight`).
 ///
 /// There is no other status, and a read or write that fails ends the run. With every status but 0
 /// and 5, and 6 where an object is made, no file is changed. Where reporting a text fails, the

@@ -17,7 +17,7 @@ use oc_target::Emits;
 use std::alloc::Global;
 
 // reads and converts the input
-fn plan<F: Files>(
+fn plan_conversion<F: Files>(
     alloc: Global,
     files: &mut F,
     to: Format,
@@ -61,7 +61,7 @@ pub fn convert_file<F: Files, C: Console>(
         (state_of F.held F.read_faults F.write_faults C.shown C.told C.out_faults C.err_faults files.old console.old) result
         (state_of F.held F.read_faults F.write_faults C.shown C.told C.out_faults C.err_faults files.new console.new) }
 {
-    let plan = match plan(alloc, files, to, edits, input) {
+    let plan = match plan_conversion(alloc, files, to, edits, input) {
         Ok(plan) => plan,
         Err(fault) => return report(alloc, console, fault),
     };

@@ -46,10 +46,10 @@ fn summed<P: Emits + Drop>(alloc: Global, count: u32, plan: P) -> Result<Made<P>
 
 // the plan of the object of so many functions as a file in the format `to`, which no format refuses but
 // ELF for many sections
-fn plan(alloc: Global, count: u32, to: Format) -> Result<AnyPlan, NoMemory>
+fn plan_made(alloc: Global, count: u32, to: Format) -> Result<AnyPlan, NoMemory>
     requires few { count ≤ 100000 }
     requires plain { is_many to ≡ false }
-    ensures { IfOk result (λ plan. making.IsMadeFile count to (⟦<AnyPlan as Emits>⟧.file plan)) }
+    ensures { IfOk result (λ plan. making.IsMadeOutput count to (⟦<AnyPlan as Emits>⟧.file plan)) }
 {
     let bytes = made_file(alloc, count, word_of(to))?;
     let edits = Edits::new(alloc);
@@ -64,10 +64,10 @@ fn plan(alloc: Global, count: u32, to: Format) -> Result<AnyPlan, NoMemory>
 fn prepared(alloc: Global, count: u32, to: Format) -> Result<Made<AnyPlan>, NoMemory>
     requires few { count ≤ 100000 }
     requires plain { is_many to ≡ false }
-    ensures planned { IfOk result (λ made. making.IsMadeFile count to (⟦<AnyPlan as Emits>⟧.file made.plan)) }
+    ensures planned { IfOk result (λ made. making.IsMadeOutput count to (⟦<AnyPlan as Emits>⟧.file made.plan)) }
     ensures summary { IfOk result (λ made. made.summary ≡ making.summary_of count (length (⟦<AnyPlan as Emits>⟧.file made.plan))) }
 {
-    let plan = plan(alloc, count, to)?;
+    let plan = plan_made(alloc, count, to)?;
     summed(alloc, count, plan)
 }
 

@@ -20,7 +20,7 @@ use std::alloc::Global;
 ///   reported.
 /// - 3: the words are not two. 4: a read failed, or a file that is to be read is not held.
 /// - 9: PLACEMENT is at fault, or has more than 67,108,864 bytes; it was reported where. 7: memory
-///   ran out.
+///   ran out, or the object or the text is above a ceiling of `oc_weight`.
 ///
 /// There is no other status. With all but 0 and 6 nothing was shown; where reporting the cause
 /// fails, the status stays. No file is changed. Takes memory for the two files, the object and the

@@ -20,7 +20,8 @@ use std::alloc::Global;
 /// - 1, 2, 8: IN has a first refusal, which is malformed, refused or a limit; its message was
 ///   reported.
 /// - 3: the words are none of these three commands; that was reported, and nothing was read.
-/// - 4: a read failed, or IN is not held. 7: memory ran out, before anything was shown.
+/// - 4: a read failed, or IN is not held. 7: memory ran out, before anything was shown, or IN or its
+///   listing is above a ceiling of `oc_weight`.
 ///
 /// There is no other status, and a call of a device that fails ends the run; where reporting a text
 /// fails, the status stays. No file is changed, and with every status but 0 and 6 nothing is shown.

@@ -2,6 +2,7 @@ pub mod CoffAgain
 pub mod CoffStays
 pub mod ElfAgain
 pub mod ElfStays
+pub mod FirstBytes
 pub mod FittedStays
 pub mod MachAgain
 pub mod MachStays
@@ -16,4 +17,3 @@ pub mod SeenSymbols
 pub mod Stable
 pub mod StaysLemmas
 pub mod SumLemmas
-pub mod Known

@@ -14,7 +14,7 @@ use Rattle.oc_neutral.specs.{RelocTables.{row_of}, Rows.{Row}, TargetSections.{e
 use Rattle.oc_shelf.specs.{Reading.Collected.{collected, with_option}, Reading.Firsts.{any_upto}, Reading.Spans.{meets}}
 use Rattle.oc_shelf.proofs.{ReadingLaws.RowLemmas.{length-rows, row_at}, ReadingLaws.StageLemmas.{first_upto-head, first_upto-same}}
 use Rattle.oc_coff_judge.specs.declared.aims.AimKind as aims
-use Rattle.oc_coff_judge.specs.{declared.relocs.Table.{Table}, Aimed.{face_of}, Led.{carried_at}}
+use Rattle.oc_coff_judge.specs.{declared.relocs.RelocTable.{RelocTable}, Aimed.{face_of}, Led.{carried_at}}
 use Rattle.oc_coff_judge.specs.Relocs.{IsTable, bytes_for, entry_fault, fault_in, faults_in, is_wrong, meets_upto, own_conditions, passes_bytes, reloc_fault, reloc_of, reloc_place, relocs_fault, row_for, span_of, takes_home, width_of}
 use Rattle.oc_coff_judge.proofs.CollectLemmas.{carried_are}
 
@@ -138,7 +138,7 @@ none_same None = refl
 none_same (Some a) = refl
 
 -- the fault of an entry that says nothing, and what that of another is made of
-module _ (w : Word) (t : Tables) (i place : ℕ) (c : Carried) (table : Table) (earlier : List Relocation) (r : Relocation) where
+module _ (w : Word) (t : Tables) (i place : ℕ) (c : Carried) (table : RelocTable) (earlier : List Relocation) (r : Relocation) where
   abbrev entry : Judged
   entry = record { of = c; at = place; earlier = earlier; entry = r }
 
@@ -200,15 +200,15 @@ module _ (w : Word) (t : Tables) (i place : ℕ) (c : Carried) (table : Table) (
 -- ... by the table of a section
 
 -- an entry of the table is that of the section
-reloc_there : (file : CoffFile) (i : ℕ) (table : Table) (is : IsTable file i table) (k : ℕ) → k < table.count → slice_get is.of.relocs k ≡ Some (reloc_of file table k)
+reloc_there : (file : CoffFile) (i : ℕ) (table : RelocTable) (is : IsTable file i table) (k : ℕ) → k < table.count → slice_get is.of.relocs k ≡ Some (reloc_of file table k)
 unfolding reloc_of
 reloc_there file i table is k low = ap (λ (rs : List Relocation). slice_get rs k) is.entries ∙ row_at relocation_at 10 file.bytes table.place table.count k low
 
-long_table : (file : CoffFile) (i : ℕ) (table : Table) (is : IsTable file i table) → length is.of.relocs ≡ table.count
+long_table : (file : CoffFile) (i : ℕ) (table : RelocTable) (is : IsTable file i table) → length is.of.relocs ≡ table.count
 long_table file i table is = ap length is.entries ∙ length-rows relocation_at 10 file.bytes table.place table.count
 
 -- its fault, by the rules
-by_rules : (w : Word) (file : CoffFile) (i : ℕ) (table : Table) (is : IsTable file i table) (k : ℕ) → k < table.count
+by_rules : (w : Word) (file : CoffFile) (i : ℕ) (table : RelocTable) (is : IsTable file i table) (k : ℕ) → k < table.count
     → entry_fault w (tables_in file) i k
     ≡ first_broken (relocation_conditions w (tables_in file) (entry w (tables_in file) i (reloc_place table k) is.of table (take k is.of.relocs) (reloc_of file table k)))
 by_rules w file i table is k low =
@@ -219,7 +219,7 @@ by_rules w file i table is k low =
     ∙ ap {B = Option Judged} (λ (n : ℕ). Some (record { of = is.of; at = n + 10 * k; earlier = take k is.of.relocs; entry = reloc_of file table k })) (sym is.place))
 
 -- the fields before are those of the entries before
-met_before : (w : Word) (file : CoffFile) (i : ℕ) (table : Table) (is : IsTable file i table) (at width n : ℕ) → n ≤ table.count
+met_before : (w : Word) (file : CoffFile) (i : ℕ) (table : RelocTable) (is : IsTable file i table) (at width n : ℕ) → n ≤ table.count
     → list_any (meets_field w at width) (take n is.of.relocs) ≡ any_upto (λ j. option_map_or (meets (at, at + width)) (span_of w file table j) false) n
 met_before w file i table is at width zero low = none is.of.relocs
   where
@@ -252,7 +252,7 @@ no_row : (w : Word) → row_of (coff_format w) 0 ≡ None
 no_row W32 = refl
 no_row W64 = refl
 
-module _ (w : Word) (file : CoffFile) (i : ℕ) (table : Table) (is : IsTable file i table) (k : ℕ) (low : k < table.count) where
+module _ (w : Word) (file : CoffFile) (i : ℕ) (table : RelocTable) (is : IsTable file i table) (k : ℕ) (low : k < table.count) where
   pub idle_entry : says_nothing (reloc_of file table k) ≡ true → entry_fault w (tables_in file) i k ≡ None
   idle_entry idle = by_rules w file i table is k low ∙ idle_fault w (tables_in file) i (reloc_place table k) is.of table (take k is.of.relocs) (reloc_of file table k) idle
 
@@ -289,7 +289,7 @@ module _ (w : Word) (file : CoffFile) (i : ℕ) (table : Table) (is : IsTable fi
       ∙ ap (λ b. or_else first (cond b (Some (reloc_fault Overlap i place)) None)) (sym met_is)
 
 -- the faults of a table are those of its section
-pub table_faults : (w : Word) (file : CoffFile) (keep : Keep) (i : ℕ) (table : Table) (is : IsTable file i table) → keeps keep is.of.section.kind ≡ true
+pub table_faults : (w : Word) (file : CoffFile) (keep : Keep) (i : ℕ) (table : RelocTable) (is : IsTable file i table) → keeps keep is.of.section.kind ≡ true
     → relocs_fault w (tables_in file) keep i ≡ first_upto (entry_fault w (tables_in file) i) table.count
 table_faults w file keep i table is kept =
     ap (option_and_then (faults_in w (tables_in file) keep)) is.here

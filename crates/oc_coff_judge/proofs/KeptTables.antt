@@ -12,7 +12,7 @@ use Rattle.oc_linking.specs.{declared.terms.Kind.{Kind}, FirstFault.{first_broke
 use Rattle.oc_linking.specs.Numbers.{first_upto, or_else}
 use Rattle.oc_shelf.proofs.ReadingLaws.StageLemmas.{all_hold, clean_at}
 use Rattle.oc_shelf.specs.Reading.Rows.{rows}
-use Rattle.oc_coff_judge.specs.{Led.{carried_at}, Judged.{copies_of, forms_of, section_fault_of}, declared.relocs.Table.{Table}}
+use Rattle.oc_coff_judge.specs.{Led.{carried_at}, Judged.{copies_of, forms_of, section_fault_of}, declared.relocs.RelocTable.{RelocTable}}
 use Rattle.oc_coff_judge.specs.Relocs.{IsTable, entry_fault, fault_in, faults_in, relocs_fault}
 use Rattle.oc_coff_judge.proofs.{JudgedRelocs.{table_faults}, SectionLemmas.{at, limit_part, name_part, section_broken}}
 
@@ -91,7 +91,7 @@ module _ (file : CoffFile) (clean : stage_fault (section_stage file.bytes (table
   carried_here o is = ap (option_and_then (λ (x : SectionTable). carried_of (tables_in file) (i + 1, x))) here ∙ ap (option_map made) is
 
   -- its table
-  pub table_is : IsHeaded file → (kind : Kind) → kind_in (tables_in file).strings h ≡ Some kind → (table : Table)
+  pub table_is : IsHeaded file → (kind : Kind) → kind_in (tables_in file).strings h ≡ Some kind → (table : RelocTable)
       → table.size ≡ h.SizeOfRawData → table.stored ≡ is_stored (Some kind) h → table.place ≡ relocs_place h → table.count ≡ reloc_count file.bytes h → IsTable file i table
   unfolding section_table
   table_is head kind is table size stored place count = record {
@@ -107,7 +107,7 @@ module _ (file : CoffFile) (clean : stage_fault (section_stage file.bytes (table
   }
 
   -- the faults of a section that is carried and kept are those of its table
-  pub kept_faults : (w : Word) (keep : Keep) (kind : Kind) → kind_in (tables_in file).strings h ≡ Some kind → keeps keep kind ≡ true → (table : Table) → IsTable file i table
+  pub kept_faults : (w : Word) (keep : Keep) (kind : Kind) → kind_in (tables_in file).strings h ≡ Some kind → keeps keep kind ≡ true → (table : RelocTable) → IsTable file i table
       → relocs_fault w (tables_in file) keep i ≡ first_upto (entry_fault w (tables_in file) i) table.count
   kept_faults w keep kind is kept table of =
       let one : made kind ≡ of.of = same_Some (made kind) of.of (sym (carried_here (Some kind) is) ∙ of.here) in

@@ -11,7 +11,7 @@ use Rattle.oc_base.specs.declared.fault.Phase.TheVariants as phase
 use Rattle.oc_linking.specs.{declared.terms.Keep.{Keep}, Keeping.{keeps}, Fits.{bytes_of}, FirstFault.{Condition, Stage, first_broken}, Numbers.{first_upto}}
 use Rattle.oc_neutral.specs.{RelocTables.{row_of}, Rows.{Row}, TargetSections.{each_of}}
 use Rattle.oc_shelf.specs.{Reading.Firsts.{any_upto}, Reading.Rows.{rows}, Reading.Bitmaps.{AreBytesOf, room}, Reading.Spans.{meets}}
-use Rattle.oc_coff_judge.specs.{declared.aims.AimKind.{AimKind}, declared.aims.AimKind.TheVariants.{Nothing, Home, Homeless}, declared.relocs.Table.{Table}}
+use Rattle.oc_coff_judge.specs.{declared.aims.AimKind.{AimKind}, declared.aims.AimKind.TheVariants.{Nothing, Home, Homeless}, declared.relocs.RelocTable.{RelocTable}}
 use Rattle.oc_coff_judge.specs.Led.{carried_at}
 
 -- ... by the rules
@@ -35,7 +35,7 @@ relocs_fault w t keep i = option_and_then (faults_in w t keep) (carried_at t i)
 -- ... by the table of a section
 
 -- the table of section i, counted from 0, which is carried
-pub record IsTable (file : CoffFile) (i : ℕ) (table : Table) : Type 0 where
+pub record IsTable (file : CoffFile) (i : ℕ) (table : RelocTable) : Type 0 where
   pub of : Carried
   pub here : carried_at (tables_in file) i ≡ Some of
   pub number : of.section.number ≡ i + 1
@@ -47,10 +47,10 @@ pub record IsTable (file : CoffFile) (i : ℕ) (table : Table) : Type 0 where
   pub small : length file.bytes ≤ 67108864
 
 -- entry k, and where it lies
-abbrev pub reloc_place : Table → ℕ → ℕ
+abbrev pub reloc_place : RelocTable → ℕ → ℕ
 reloc_place table k = table.place + RELOCATION_SIZE * k
 
-unfoldable pub reloc_of : CoffFile → Table → ℕ → Relocation
+unfoldable pub reloc_of : CoffFile → RelocTable → ℕ → Relocation
 reloc_of file table k = relocation_at file.bytes (reloc_place table k)
 
 -- the row of its type
@@ -66,11 +66,11 @@ abbrev pub takes_home : Word → Relocation → Bool
 takes_home w r = option_map_or needs_home (row_for w r) false
 
 -- how many bytes of the file are a section's
-abbrev pub stored_size : Table → ℕ
+abbrev pub stored_size : RelocTable → ℕ
 stored_size table = if table.stored then table.size else 0
 
 -- its field passes the bytes of its section that are in the file
-abbrev pub passes_bytes : Word → Table → Relocation → Bool
+abbrev pub passes_bytes : Word → RelocTable → Relocation → Bool
 passes_bytes w table r = not table.stored || nat_lt table.size (r.VirtualAddress + width_of w r)
 
 -- a fault of an entry of section i, counted from 0
@@ -84,7 +84,7 @@ is_wrong home Home = false
 is_wrong home Homeless = home
 
 -- the conditions that an entry at a place meets by itself, where its symbol stands for that
-unfoldable pub own_conditions : Word → ℕ → Table → ℕ → Relocation → Option AimKind → List Condition
+unfoldable pub own_conditions : Word → ℕ → RelocTable → ℕ → Relocation → Option AimKind → List Condition
 own_conditions w i table place r aim =
     (is_none (row_for w r), reloc_fault RelocKind i place)
     ∷ (passes_bytes w table r, reloc_fault BadOffset i place)
@@ -97,15 +97,15 @@ abbrev pub bytes_for : Word → Relocation → ℕ × ℕ
 bytes_for w r = (r.VirtualAddress, r.VirtualAddress + width_of w r)
 
 -- those of entry k, where its type has a row
-abbrev pub span_of : Word → CoffFile → Table → ℕ → Option (ℕ × ℕ)
+abbrev pub span_of : Word → CoffFile → RelocTable → ℕ → Option (ℕ × ℕ)
 span_of w file table k = option_map (λ (row : Row). bytes_for w (reloc_of file table k)) (row_for w (reloc_of file table k))
 
 -- the field of an entry has bytes in common with that of one of the first n entries
-abbrev pub meets_upto : Word → CoffFile → Table → ℕ → Relocation → Bool
+abbrev pub meets_upto : Word → CoffFile → RelocTable → ℕ → Relocation → Bool
 meets_upto w file table n r = any_upto (λ j. option_map_or (meets (bytes_for w r)) (span_of w file table j) false) n
 
 -- the bytes taken are those of the fields of the first n entries, and there is room for all of the section
-pub record AreTaken (w : Word) (file : CoffFile) (table : Table) (n : ℕ) (words : List ℕ) : Type 0 where
+pub record AreTaken (w : Word) (file : CoffFile) (table : RelocTable) (n : ℕ) (words : List ℕ) : Type 0 where
   pub fields : AreBytesOf (span_of w file table) n words
   pub room : stored_size table ≤ room words
 

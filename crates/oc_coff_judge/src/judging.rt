@@ -13,7 +13,7 @@ ghost use Rattle.oc_coff_judge.specs.Relocs as relocs;
 
 use crate::aims::aims_of;
 use crate::found::{Found, found_in};
-use crate::relocs::{Aims, Table, check_table};
+use crate::relocs::{Aims, RelocTable, check_table};
 use crate::section_stage::check_sections;
 use crate::sections::kind_in;
 use crate::symbol_stage::check_symbols;
@@ -49,14 +49,14 @@ pub(crate) fn reloc_count(coff: &Coff, h: &SectionHeader) -> u32
 
 /// The relocation table of section `i`, counted from 0, which has that header and kind. Constant time.
 #[tactic(auto, unfolding(oc_coff::specs::Tables::tables_of))]
-pub fn table_of(coff: &Coff, i: u32, h: &SectionHeader, kind: Kind) -> Table
+pub fn table_of(coff: &Coff, i: u32, h: &SectionHeader, kind: Kind) -> RelocTable
     requires clean { stage_fault (section_stage coff.now.bytes (files.tables_in coff.now)) ≡ None }
     requires here { slice_get (files.tables_in coff.now).sections i ≡ Some (tables.section_table coff.now.bytes h.now) }
     requires carried { sections.kind_in (files.tables_in coff.now).strings h.now ≡ Some kind }
     ensures { relocs.IsTable coff.now i result }
 {
     coff.is_headed();
-    Table {
+    RelocTable {
         size: h.SizeOfRawData,
         stored: is_stored(Some(kind), h),
         place: relocs_place(h),

@@ -24,6 +24,6 @@ pub use judging::{check_rest, table_of};
 pub use keys::{leader_of, led_symbol};
 pub use owners::{OwnerTables, Owners};
 pub use positions::symbol_positions;
-pub use relocs::{Table, reloc_of, says_nothing};
+pub use relocs::{RelocTable, reloc_of, says_nothing};
 pub use sections::{is_carried, kind_in};
 pub use symbols::name_by;

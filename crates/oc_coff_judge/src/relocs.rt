@@ -21,7 +21,7 @@ use std::alloc::Global;
 
 /// The relocation table of a section that is carried.
 #[derive(Clone, Copy)]
-pub struct Table {
+pub struct RelocTable {
     /// How many bytes the section has.
     pub size: u32,
     /// Whether they are in the file.
@@ -42,7 +42,7 @@ pub(crate) struct Aims<'a> {
 }
 
 /// Where entry `k` of a table lies, in bytes from the start of the file. Constant time.
-pub(crate) fn reloc_place(table: &Table, k: u32) -> u64
+pub(crate) fn reloc_place(table: &RelocTable, k: u32) -> u64
     requires there { k < table.now.count }
     requires lies { table.now.place + RELOCATION_SIZE * table.now.count ≤ MOST_INPUT }
     ensures { result ≡ rules.reloc_place table.now k }
@@ -52,7 +52,7 @@ pub(crate) fn reloc_place(table: &Table, k: u32) -> u64
 
 /// Entry `k` of a table. Constant time.
 #[tactic(auto, unfolding(crate::specs::Relocs::reloc_of))]
-pub fn reloc_of(coff: &Coff, i: u32, table: &Table, k: u32) -> Relocation
+pub fn reloc_of(coff: &Coff, i: u32, table: &RelocTable, k: u32) -> Relocation
     requires table { rules.IsTable coff.now i table.now }
     requires there { k < table.now.count }
     ensures { result ≡ rules.reloc_of coff.now table.now k }
@@ -123,7 +123,7 @@ fn reloc_fault(code: Code, i: u32, place: u64) -> Fault
 }
 
 // how many bytes of the file are the section's
-fn stored_size(table: &Table) -> u64
+fn stored_size(table: &RelocTable) -> u64
     ensures { result ≡ rules.stored_size table.now }
 {
     if table.stored {
@@ -134,7 +134,7 @@ fn stored_size(table: &Table) -> u64
 }
 
 // whether the field passes the bytes of its section that are in the file
-fn passes_bytes(word: Word, table: &Table, r: &Relocation) -> bool
+fn passes_bytes(word: Word, table: &RelocTable, r: &Relocation) -> bool
     ensures { result ≡ rules.passes_bytes word table.now r.now }
 {
     let end = u64::from(r.VirtualAddress) + u64::from(width_of(word, r));
@@ -143,7 +143,7 @@ fn passes_bytes(word: Word, table: &Table, r: &Relocation) -> bool
 
 // the fault of the conditions that an entry at a place meets by itself
 #[tactic(auto, unfolding(crate::specs::Relocs::own_conditions))]
-fn own_fault(aims: &Aims, i: u32, table: &Table, place: u64, r: &Relocation) -> Option<Fault>
+fn own_fault(aims: &Aims, i: u32, table: &RelocTable, place: u64, r: &Relocation) -> Option<Fault>
     requires low { i < 2 ^ 21 }
     ensures { result ≡ first_broken (own_conditions aims.now.word i table.now place r.now (slice_index_or aims.now.symbols.now r.now.SymbolTableIndex None)) }
 {
@@ -170,7 +170,7 @@ fn judge_entry(
     coff: &Coff,
     aims: &Aims,
     i: u32,
-    table: &Table,
+    table: &RelocTable,
     bytes: &mut Bitmap,
     k: u32,
 ) -> Result<(), Stop>
@@ -212,7 +212,7 @@ pub(crate) fn check_table(
     coff: &Coff,
     aims: &Aims,
     i: u32,
-    table: &Table,
+    table: &RelocTable,
 ) -> Result<(), Stop>
     requires low { i < 2 ^ 21 }
     requires aims { aims.now.symbols.now ≡ aimed.aims_in (files.tables_in coff.now) }

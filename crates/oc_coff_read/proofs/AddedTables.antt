@@ -12,7 +12,7 @@ use Rattle.oc_shows.specs.Built.{HasAdded}
 use Rattle.oc_shelf.specs.{declared.reading.order.PlacedEntry.{PlacedEntry}, Reading.Collected.{collected}, Reading.Order.{is_among}}
 use Rattle.oc_shelf.proofs.{ReadingLaws.CollectedLemmas.{collected-at, collected-none, collected-same}, ReadingLaws.RowLemmas.{length-rows, row_at}}
 use Rattle.oc_shelf.proofs.ReadingLaws.PlacedLemmas.{not_among}
-use Rattle.oc_coff_judge.specs.{declared.relocs.Table.{Table}, Led.{carried_at}, Relocs.{IsTable, reloc_of, width_of}}
+use Rattle.oc_coff_judge.specs.{declared.relocs.RelocTable.{RelocTable}, Led.{carried_at}, Relocs.{IsTable, reloc_of, width_of}}
 use Rattle.oc_coff_read.specs.Adding.{HasBefore, IsPlace, IsReady, started}
 use Rattle.oc_coff_read.specs.Given.{IsAimed, entry_in, given_at, given_before, given_with, placed, placed_as, placed_at, reloc_by, reloc_in}
 use Rattle.oc_coff_read.proofs.{BuildLemmas.{header_kind, header_lies, raw_is}, FoundEntries.{IsGood, differ_at, good_entry}}
@@ -42,7 +42,7 @@ module _ (w : Word) (t : Tables) (keep : Keep) where
 
 -- ... entries of a table
 
-module _ (file : CoffFile) (i : ℕ) (table : Table) (is : IsTable file i table) where
+module _ (file : CoffFile) (i : ℕ) (table : RelocTable) (is : IsTable file i table) where
   pub table_long : length is.of.relocs ≡ table.count
   table_long = ap length is.entries ∙ length-rows relocation_at 10 file.bytes table.place table.count
 
@@ -77,7 +77,7 @@ module _ (file : CoffFile) (i : ℕ) (h : SectionHeader) (here : slice_get (tabl
       ∙ ap (option_map (λ kind. record { section = section_of (tables_in file) (i + 1) (section_table file.bytes h) kind; stored = is_stored (Some kind) (section_table file.bytes h).header; relocs_at = (section_table file.bytes h).relocs_at; relocs = (section_table file.bytes h).relocs }))
       (header_kind file h (tables_in file).strings (Some kind) is)
 
-  module _ (table : Table) (m : IsTable file i table) where
+  module _ (table : RelocTable) (m : IsTable file i table) where
     same : m.of ≡ made
     same = same_Some m.of made (sym m.here ∙ carried_is)
 
@@ -119,7 +119,7 @@ before_same w file keep i p d h here none before =
 -- ... entries, added
 
 module _ (w : Word) (file : CoffFile) (head : IsHeaded file) (bytes : AreBytes file.bytes) (keep : Keep) (sections symbols : List (Option ℕ)) (ready : IsReady w file keep sections symbols)
-    (i p : ℕ) (kind : Kind) (table : Table) (contents : List ℕ) (place : IsPlace file i p kind table contents) (kept : keeps keep kind ≡ true) where
+    (i p : ℕ) (kind : Kind) (table : RelocTable) (contents : List ℕ) (place : IsPlace file i p kind table contents) (kept : keeps keep kind ≡ true) where
   abbrev t : Tables
   t = tables_in file
 

@@ -7,7 +7,7 @@ use Rattle.oc_linking.specs.{declared.terms.Keep.{Keep}, declared.terms.Kind.{Ki
 use Rattle.oc_neutral.specs.Building.{Draft}
 use Rattle.oc_shows.specs.Built.{HasAdded, IsStarted}
 use Rattle.oc_shelf.specs.{declared.reading.order.PlacedEntry.{PlacedEntry}, Reading.Collected.{collected}, Reading.Slots.{AreSlots}}
-use Rattle.oc_coff_judge.specs.{declared.relocs.Table.{Table}, Found.{ArePositions}, Led.{carried_at}, Relocs.{IsTable}, Tagged.{symbol_position}}
+use Rattle.oc_coff_judge.specs.{declared.relocs.RelocTable.{RelocTable}, Found.{ArePositions}, Led.{carried_at}, Relocs.{IsTable}, Tagged.{symbol_position}}
 use Rattle.oc_coff_read.specs.{Built.{symboled}, Given.{given_before, given_with}}
 
 -- what is built before the relocations
@@ -25,7 +25,7 @@ pub record IsReady (w : Word) (file : CoffFile) (keep : Keep) (sections symbols 
 
 -- section i, counted from 0, is carried, and is at position p; this is its kind, this its table, and these its bytes, where they are in the
 -- file
-pub record IsPlace (file : CoffFile) (i p : ℕ) (kind : Kind) (table : Table) (contents : List ℕ) : Type 0 where
+pub record IsPlace (file : CoffFile) (i p : ℕ) (kind : Kind) (table : RelocTable) (contents : List ℕ) : Type 0 where
   pub table_is : IsTable file i table
   pub kind_is : kind ≡ table_is.of.section.kind
   pub there : slice_get (carried_in (tables_in file)) p ≡ Some table_is.of

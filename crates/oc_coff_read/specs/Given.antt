@@ -16,7 +16,7 @@ use Rattle.oc_neutral.specs.{declared.reloc.Reloc.{Reloc}, declared.reloc.Target
 use Rattle.oc_neutral.specs.Rows.{Row}
 use Rattle.oc_neutral.specs.declared.reloc.Target.TheVariants as target
 use Rattle.oc_shelf.specs.{declared.reading.order.PlacedEntry.{PlacedEntry}, Reading.Order.{is_among}}
-use Rattle.oc_coff_judge.specs.{declared.relocs.Table.{Table}, Numbered.{entry_by}, Relocs.{reloc_of}, Tagged.{symbol_position}}
+use Rattle.oc_coff_judge.specs.{declared.relocs.RelocTable.{RelocTable}, Numbered.{entry_by}, Relocs.{reloc_of}, Tagged.{symbol_position}}
 
 -- the relocation of a row against a value: a place is a section's, with the offset added; a is the number in the field, and s the position of its section
 abbrev pub reloc_at : Word → Row → ℕ → ℤ → Value → Option Reloc
@@ -94,7 +94,7 @@ abbrev pub placed : List Relocation → ℕ → Option PlacedEntry
 placed relocs k = placed_as (entry_in relocs k) k
 
 -- the same, where the table lies in the file
-abbrev pub placed_at : CoffFile → Table → ℕ → Option PlacedEntry
+abbrev pub placed_at : CoffFile → RelocTable → ℕ → Option PlacedEntry
 placed_at file table k = placed_as (reloc_of file table k) k
 
 -- what is given for the sections at the positions below p

@@ -18,7 +18,7 @@ use crate::built_relocs::{in_order, reloc_for};
 use crate::built_symbols::Positions;
 use oc_base::{NoMemory, Word};
 use oc_coff::{Coff, SectionHeader};
-use oc_coff_judge::{Table, kind_in, reloc_of, table_of};
+use oc_coff_judge::{RelocTable, kind_in, reloc_of, table_of};
 use oc_neutral::{Builder, Keep, Kind, are_bytes};
 use oc_shelf::PlacedEntry;
 use std::alloc::Global;
@@ -46,13 +46,13 @@ struct RelocSection<'a> {
     // its kind
     kind: Kind,
     // its relocation table
-    table: Table,
+    table: RelocTable,
     // its bytes, where they are in the file
     contents: &'a [u8],
 }
 
 // the bytes of a section that are in the file, where there are any
-fn contents_of<'a>(coff: &Coff<'a>, table: &Table, h: &SectionHeader) -> &'a [u8]
+fn contents_of<'a>(coff: &Coff<'a>, table: &RelocTable, h: &SectionHeader) -> &'a [u8]
     requires { table.now.stored ≡ true → h.now.PointerToRawData + h.now.SizeOfRawData ≤ length coff.now.bytes }
     ensures { table.now.stored ≡ true → result.now ≡ take h.now.SizeOfRawData (drop h.now.PointerToRawData coff.now.bytes) }
 {

@@ -15,7 +15,7 @@ use crate::built_symbols::Positions;
 use oc_algebra::{field_at, from_field, reduce};
 use oc_base::{NoMemory, Word};
 use oc_coff::{Coff, Meaning, Relocation, meaning_of};
-use oc_coff_judge::{Table, reloc_of, says_nothing, value_of};
+use oc_coff_judge::{RelocTable, reloc_of, says_nothing, value_of};
 use oc_neutral::{Hint, Reloc, Target, Value, moved_addend};
 use oc_shelf::{PlacedEntry, sort_by_place};
 use std::alloc::Global;
@@ -95,7 +95,7 @@ pub(crate) fn reloc_for(
 }
 
 // the entries of the table of section `i` that say something, each with the offset of its field
-fn gathered(alloc: Global, coff: &Coff, i: u32, table: &Table) -> Result<Vec<PlacedEntry>, NoMemory>
+fn gathered(alloc: Global, coff: &Coff, i: u32, table: &RelocTable) -> Result<Vec<PlacedEntry>, NoMemory>
     requires { IsTable coff.now i table.now }
     ensures { IfOk result (λ entries. entries.items ≡ collected (given.placed_at coff.now table.now) table.now.count) }
 {
@@ -119,7 +119,7 @@ pub(crate) fn in_order(
     alloc: Global,
     coff: &Coff,
     i: u32,
-    table: &Table,
+    table: &RelocTable,
 ) -> Result<Vec<PlacedEntry>, NoMemory>
     requires { IsTable coff.now i table.now }
     ensures { IfOk result (λ entries. IsPermutation (collected (given.placed_at coff.now table.now) table.now.count) entries.items) }

@@ -11,7 +11,7 @@ ghost use Rattle.oc_neutral.specs.Families.{container_of};
 ghost use Rattle.oc_neutral.specs.Family.{IsCoff};
 ghost use Rattle.oc_target.specs.Fitted.{IsFitted};
 ghost use Rattle.oc_neutral.specs.Objects.{Object};
-ghost use Rattle.oc_neutral.specs.declared.section.Section.{Section as Held};
+ghost use Rattle.oc_neutral.specs.declared.section.Section.{Section as HeldSection};
 ghost use Rattle.oc_shelf.specs.Writing.Parts.{Laid};
 ghost use Rattle.oc_coff_file.specs.Canonical as canonical;
 ghost use Rattle.oc_coff_file.specs.Canonical.{entry_rows, line_entry, tag_of};
@@ -19,7 +19,7 @@ ghost use Rattle.oc_coff.specs.Values as values;
 ghost use Rattle.oc_coff_file.specs.Lines as coff_lines;
 ghost use Rattle.oc_coff_write.specs.Entries.{AreAdded, entry_bytes, IsMadeOf, IsSectionAux, rows_in};
 ghost use Rattle.oc_coff_write.specs.Keys.{AreLeaders, key_position, leader_position};
-ghost use Rattle.oc_coff_write.specs.Lines.{line_in, AreLines, IsListed};
+ghost use Rattle.oc_coff_write.specs.Lines.{line_in, AreLines, IsAmongLines};
 ghost use Rattle.oc_coff_write.specs.Numbers.{IsNumbered, HasTag};
 ghost use Rattle.oc_coff_write.specs.Strings.{Holds, HoldsSymbolName, table_for};
 ghost use Rattle.oc_coff.specs.Values.{HasRoom};
@@ -207,8 +207,8 @@ fn add_section(
     requires there { position < length neutral.now.sections }
     requires few { length neutral.now.sections < 2 ^ 31 }
     requires made { IsMadeOf (form_for neutral.now.format) neutral.now made }
-    requires held { (s : Held) → slice_get neutral.now.sections position ≡ Some s → HoldsSymbolName made.names.now s.name }
-    ensures { OnOk result ((s : Held) → slice_get neutral.now.sections position ≡ Some s
+    requires held { (s : HeldSection) → slice_get neutral.now.sections position ≡ Some s → HoldsSymbolName made.names.now s.name }
+    ensures { OnOk result ((s : HeldSection) → slice_get neutral.now.sections position ≡ Some s
         → AreAdded (form_for neutral.now.format) neutral.now (coff_lines.SectionLine position s) entries.old.items entries.new.items) }
 {
     let symbol = section_entry(made.names, near, position, neutral.section(position));
@@ -296,7 +296,7 @@ fn add_line(
     requires coff { container_of neutral.now.format ≡ IsCoff }
     requires fitted { IsFitted neutral.now.format neutral.now }
     requires made { IsMadeOf (form_for neutral.now.format) neutral.now made }
-    requires listed { IsListed (form_for neutral.now.format) neutral.now line }
+    requires listed { IsAmongLines (form_for neutral.now.format) neutral.now line }
     ensures { OnOk result ((is : coff_lines.Line) → line_in neutral.now line ≡ Some is
         → AreAdded (form_for neutral.now.format) neutral.now is entries.old.items entries.new.items) }
 {

@@ -15,16 +15,16 @@ elf64_bytes = 0x7F ∷ 0x45 ∷ 0x4C ∷ 0x46 ∷ 2 ∷ []
 
 -- a header of ELF of so many bytes, with e_shoff at a place and e_shnum and e_shstrndx at another: it is whole, there is a table of section
 -- headers, and the number of headers or that of the header of their names is in the table
-abbrev pub is_extended : ℕ → ℕ → ℕ → ℕ → List ℕ → Bool
-is_extended size shoff width shnum file =
+abbrev pub has_extended_header : ℕ → ℕ → ℕ → ℕ → List ℕ → Bool
+has_extended_header size shoff width shnum file =
     nat_le size (length file) && not (nat_eq (number_at file shoff width) 0)
     && (nat_eq (number_at file shnum 2) 0 || nat_eq (number_at file (shnum + 2) 2) 0xFFFF)
 
 abbrev pub is_big_elf32 : List ℕ → Bool
-is_big_elf32 file = is_extended 52 32 4 48 file
+is_big_elf32 file = has_extended_header 52 32 4 48 file
 
 abbrev pub is_big_elf64 : List ℕ → Bool
-is_big_elf64 file = is_extended 64 40 8 60 file
+is_big_elf64 file = has_extended_header 64 40 8 60 file
 
 -- the class of objects of COFF with many sections
 abbrev pub big_class : List ℕ

@@ -23,7 +23,7 @@ use Rattle.oc_macho_file.specs.Canonical.{mach_file}
 use Rattle.oc_omf_file.specs.Canonical.{omf_file}
 use Rattle.oc_canonical.specs.Stable.{IsStable}
 use Rattle.oc_canonical.proofs.{Stable.{canonical_is_stable, elf_reads_back, coff_reads_back, mach_reads_back}, OmfStable.{omf_reads_back}}
-use Rattle.oc_canonical.proofs.Known.{elf_known, coff_known, mach_known, omf_known}
+use Rattle.oc_canonical.proofs.FirstBytes.{elf_known, coff_known, mach_known, omf_known}
 use Rattle.oc_omf.specs.Rules.{omf_dialect}
 
 elf_stable : (class : ElfClass) (n : Object) → IsFitted (format_of class) n → IsStable (elf_dialect class) (elf_file class) (elf_file class n)

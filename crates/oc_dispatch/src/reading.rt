@@ -43,9 +43,13 @@ fn read_by<R: Reads>(alloc: Global, reader: &R, bytes: &[u8], keep: &Keep) -> Re
 ///
 /// `Refused` exactly where there is a first refusal: in the file header `UnknownFormat`, where the
 /// first bytes are those of no format; else the first fault of the file, of any class. Where there is
-/// none, it is the one object that shows the file. `NoMemory` where memory ran out. Takes the memory
-/// and time of reading: some 1 GiB and 10 seconds for the worst files known, but for modules of OMF with
-/// millions of names (measured: docs/SAFETY.md).
+/// none, it is the one object that shows the file. `NoMemory` where memory ran out, or, on any machine,
+/// where the names of sections, symbols and groups of ELF and COFF, of symbols of Mach-O or of segments of
+/// OMF weigh more than 1 GiB, a name 64 more than its bytes, where all tables of relocations have more than
+/// 2^23 entries, or where a module of OMF has more than 9,586,980 relocated fields (`oc_weight`).
+///
+/// Takes the memory and time of reading: some 1 GiB and 10 seconds for the worst files known, but for
+/// modules of OMF with millions of names (measured: docs/SAFETY.md).
 #[tactic(auto, unfolding(oc_built::specs::Built::built))]
 pub fn read_any(alloc: Global, bytes: &[u8], keep: &Keep) -> Result<Neutral, Stop>
     requires { length bytes.now ≤ MOST_INPUT }

@@ -6,7 +6,7 @@ use Rattle.oc_linking.specs.{declared.terms.Value.{Value}, declared.terms.Fallba
 use Rattle.oc_linking.specs.{declared.terms.Binding.TheVariants.{Local, Global, Undefined, Common, Weak}, Keeping.{carried_of, kept_of}, Parts.{is_local}}
 use Rattle.oc_linking.specs.declared.terms.Value.TheVariants as value
 use Rattle.oc_linking.specs.declared.terms.Fallback.TheVariants as fallback
-use Rattle.oc_linking.proofs.Raising.{raised_value, raised_fallback, raised_binding}
+use Rattle.oc_linking.specs.Raising.{raised_value, raised_fallback, raised_binding}
 use Rattle.oc_neutral.specs.{declared.symbol.Symbol.{Symbol}, Objects.{Object}, Faces.{number_of, shown_fallback, shown_binding}}
 use Rattle.oc_neutral.specs.Invariants.{HasOffset, IsValue, IsFallback, IsBinding, IsSymbol}
 use Rattle.oc_neutral.specs.Without.{symbols_stay, is_dropped, value_section, binding_section, lies_in_dropped, new_position, moved_value, moved_fallback, moved_binding, with_binding, IsDetached}

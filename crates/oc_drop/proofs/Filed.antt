@@ -3,7 +3,7 @@ use Rattle.std.proofs.Common.{◌≢◌, ℕ, ◌<◌, Bool, List, [], ◌∷◌
 use Rattle.std.specs.List.{AllByRecursion}
 use Rattle.oc_linking.specs.declared.terms.Fallback.TheVariants as fallback
 use Rattle.oc_linking.specs.{declared.terms.Binding.{Binding}, declared.terms.Binding.TheVariants.{Local, Global, Undefined, Common, Weak}}
-use Rattle.oc_linking.proofs.Raising.{raised_binding}
+use Rattle.oc_linking.specs.Raising.{raised_binding}
 use Rattle.oc_neutral.specs.{declared.symbol.Symbol.{Symbol}, Faces.{shown_binding}, Without.{with_binding}}
 
 -- a binding, as the file has it: sections by their positions among the carried ones, a fallback by its number

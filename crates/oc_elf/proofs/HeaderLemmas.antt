@@ -5,7 +5,7 @@ use Rattle.std.proofs.lemmas.{Bool.{eqb-true, true≢false}, Bool.Decides.{nat_t
 use Rattle.oc_base.specs.{declared.format.Word.{Word}, declared.code.Code.TheVariants.{BadHeader, Short}}
 use Rattle.oc_elf.specs.{declared.class.ElfClass.{ElfClass}, declared.ehdr.Ehdr.{Ehdr}, declared.shdr.Shdr.{Shdr}, Shdr.{shdr_size}}
 use Rattle.oc_elf.specs.{Frames.{headers_of, header_of, header_at, framed, count_by, big_count, shdr_count, names_number}, Classes.{is_big, word_of}}
-use Rattle.oc_elf.specs.{Laid.{HasHeader}, Headers.{header_conditions, header_fault, plain_conditions, big_conditions, table_conditions, is_extended}}
+use Rattle.oc_elf.specs.{Laid.{HasHeader}, Headers.{header_conditions, header_fault, plain_conditions, big_conditions, table_conditions, is_wrongly_extended}}
 use Rattle.oc_linking.specs.FirstFault.{Condition, first_broken}
 use Rattle.oc_shelf.proofs.ReadingLaws.StageLemmas.{all_hold}
 
@@ -23,7 +23,7 @@ plain_lies w size h plain holds = elim (eqb h.e_shnum 0) as (λ a. eqb h.e_shnum
     ] refl plain holds
 
 -- by the class
-table_lies : (w : ElfClass) (size : ℕ) (h : Ehdr) (zero : Shdr) → is_extended w h ≡ false → AllByRecursion (λ (c : Condition). c.0 ≡ false) (table_conditions w size h zero) → h.e_shoff + shdr_size (word_of w) * count_by w h zero ≤ size
+table_lies : (w : ElfClass) (size : ℕ) (h : Ehdr) (zero : Shdr) → is_wrongly_extended w h ≡ false → AllByRecursion (λ (c : Condition). c.0 ≡ false) (table_conditions w size h zero) → h.e_shoff + shdr_size (word_of w) * count_by w h zero ≤ size
 table_lies w size h zero = by (is_big w)
   where
     by : (b : Bool) → (not b && (eqb h.e_shnum 0 && not (eqb h.e_shoff 0) || eqb h.e_shstrndx 65535)) ≡ false

@@ -21,8 +21,8 @@ abbrev pub is_relocatable : Word → Ehdr → Bool
 is_relocatable word h = nat_eq h.e_type ET_REL && nat_eq h.e_machine (machine_of word)
 
 -- sections are numbered elsewhere than in the header, and may not
-abbrev pub is_extended : ElfClass → Ehdr → Bool
-is_extended class h = not (is_big class) && (nat_eq h.e_shnum 0 && not (nat_eq h.e_shoff 0) || nat_eq h.e_shstrndx SHN_XINDEX)
+abbrev pub is_wrongly_extended : ElfClass → Ehdr → Bool
+is_wrongly_extended class h = not (is_big class) && (nat_eq h.e_shnum 0 && not (nat_eq h.e_shoff 0) || nat_eq h.e_shstrndx SHN_XINDEX)
 
 -- there are section headers
 abbrev pub has_headers : Ehdr → Bool
@@ -56,7 +56,7 @@ header_conditions class size h zero =
     (nat_lt size (ehdr_size (word_of class)), header_fault Short 0)
     ∷ (not (is_current (word_of class) h), header_fault BadHeader 0)
     ∷ (not (is_relocatable (word_of class) h), header_fault NotRelocatable 0)
-    ∷ (is_extended class h, header_fault ExtendedNumbering 0)
+    ∷ (is_wrongly_extended class h, header_fault ExtendedNumbering 0)
     ∷ table_conditions class size h zero
 
 -- those on the header that a file has

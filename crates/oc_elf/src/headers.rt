@@ -44,8 +44,8 @@ fn is_relocatable(word: Word, h: &Ehdr) -> bool
 }
 
 // whether sections are numbered elsewhere than in the header
-fn is_extended(class: ElfClass, h: &Ehdr) -> bool
-    ensures { result ≡ rules.is_extended class h.now }
+fn is_wrongly_extended(class: ElfClass, h: &Ehdr) -> bool
+    ensures { result ≡ rules.is_wrongly_extended class h.now }
 {
     !class.is_big() && (h.e_shnum == 0 && h.e_shoff != 0 || h.e_shstrndx == SHN_XINDEX)
 }
@@ -165,7 +165,7 @@ pub(crate) fn header_fault(class: ElfClass, file: &[u8]) -> Option<Fault>
     if !is_relocatable(word, &h) {
         return fault_at(Code::NotRelocatable, 0);
     }
-    if is_extended(class, &h) {
+    if is_wrongly_extended(class, &h) {
         return fault_at(Code::ExtendedNumbering, 0);
     }
     table_fault(class, file, &h)

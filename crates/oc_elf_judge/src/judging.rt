@@ -14,7 +14,7 @@ ghost use Rattle.oc_elf.specs.SymbolRules.{symbol_stage};
 
 use crate::positions::{section_positions, symbol_positions};
 use crate::relocs::{Aims, check_table};
-use crate::section_stage::{Tables, check_sections, table_header};
+use crate::section_stage::{FoundTables, check_sections, table_header};
 use crate::sections::kind_of;
 use crate::symbol_stage::check_symbols;
 use crate::weight::{header_weight, weigh_symbols};
@@ -87,7 +87,7 @@ fn check_relocs(
 #[derive(Drop)]
 pub struct Found {
     /// What the section headers describe beside sections.
-    pub tables: Tables,
+    pub tables: FoundTables,
     /// The position of each section among the carried ones.
     pub sections: Slots,
     /// The position of each symbol among the carried ones.
@@ -96,8 +96,8 @@ pub struct Found {
 
 /// Judges what comes after the file header, and gives what was found on the way.
 ///
-/// Stops exactly where there is a fault, with the first; or where memory ran out. The time is that
-/// of `judge`.
+/// Stops exactly where there is a fault, with the first; or where memory ran out, or the names or the
+/// tables weigh too much (`judge`). The time is that of `judge`.
 pub fn check_rest(alloc: Global, frame: &Frame, keep: &Keep) -> Result<Found, Stop>
     ensures clean { OnOk result (first_fault (rest_stages frame.now keep.now) ≡ None) }
     ensures stop { IfErr result (IsStop (first_fault (rest_stages frame.now keep.now))) }

@@ -22,7 +22,7 @@ use std::alloc::Global;
 
 /// What the section headers of a file describe beside sections, by the numbers of headers.
 #[derive(Drop)]
-pub struct Tables {
+pub struct FoundTables {
     /// The symbol table.
     pub symtab: Option<u32>,
     /// The relocation table of each section.
@@ -97,7 +97,7 @@ fn take_table(frame: &Frame, tables: &mut Slots, k: u32)
 ///
 /// Stops exactly where a section header has a fault, with the first; or where memory ran out.
 /// Linear in the section headers, the names of sections and the members of groups.
-pub(crate) fn check_sections(alloc: Global, frame: &Frame) -> Result<Tables, Stop>
+pub(crate) fn check_sections(alloc: Global, frame: &Frame) -> Result<FoundTables, Stop>
     ensures clean { OnOk result (stage_fault (rules.section_stage frame.now) ≡ None) }
     ensures stop { IfErr result (IsStop (stage_fault (rules.section_stage frame.now))) }
     ensures symtab { IfOk result (λ t. t.symtab ≡ sections.symtab_among frame.now (length frame.now.headers)) }
@@ -121,7 +121,7 @@ pub(crate) fn check_sections(alloc: Global, frame: &Frame) -> Result<Tables, Sto
         take_table(frame, &mut relocs, k);
         sums = counted(frame, sums, k);
     }
-    Ok(Tables {
+    Ok(FoundTables {
         symtab,
         relocs,
         owners,

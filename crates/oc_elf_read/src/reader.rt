@@ -50,7 +50,8 @@ fn object_of(alloc: Global, frame: &Frame, keep: &Keep, found: &Found) -> Result
 /// "Relocation").
 ///
 /// Refused exactly where the file has a fault when it is read under `keep`, with the first one;
-/// `NoMemory` where memory ran out. The time is that of `judge`, and linear in the bytes of the file.
+/// `NoMemory` where memory ran out, or where the names weigh more than 1 GiB, or all relocation tables have
+/// more than 2^23 entries (`oc_weight`). The time is that of `judge`, and linear in the bytes of the file.
 pub fn read_elf(alloc: Global, class: ElfClass, bytes: &[u8], keep: &Keep) -> Result<Neutral, Stop>
     requires { length bytes.now ≤ MOST_INPUT }
     ensures well_formed { OnOk result (fault_in class bytes.now keep.now ≡ None) }

@@ -15,7 +15,7 @@ ghost use Rattle.oc_elf_file.specs.Headers as headers;
 ghost use Rattle.oc_elf_file.specs.Heads as elf_heads;
 ghost use Rattle.oc_elf_file.specs.Layout as layout;
 ghost use Rattle.oc_elf_file.specs.Lines.{numbered_lines, signature_number};
-ghost use Rattle.oc_elf_write.specs.Heads.{AreHeads, head_in, IsListed};
+ghost use Rattle.oc_elf_write.specs.Heads.{AreHeads, head_in, IsAmongHeads};
 ghost use Rattle.oc_elf_write.specs.LaidParts.{begins_by};
 ghost use Rattle.oc_elf_write.specs.Keys.{AreKeys};
 ghost use Rattle.oc_elf_write.specs.HeaderInputs.{IsMadeOf};
@@ -321,7 +321,7 @@ fn header_of(
 ) -> Result<Shdr, NoMemory>
     requires fitted { IsFitted (format_of class) neutral.now }
     requires made { IsMadeOf class neutral.now made }
-    requires listed { IsListed neutral.now head }
+    requires listed { IsAmongHeads neutral.now head }
     ensures { IfOk result (λ shdr. (is : elf_heads.Head) → head_in neutral.now head ≡ Some is → shdr ≡ headers.shdr_of class neutral.now place is) }
 {
     let name = head_name(alloc, class, neutral, head)?;

@@ -4,7 +4,7 @@ ghost use Rattle.std.specs.Option.{option_map_or};
 ghost use Rattle.oc_neutral.specs.Invariants.{IsBinding, IsFallback, IsValue};
 ghost use Rattle.oc_neutral.specs.KeySymbols as keys;
 ghost use Rattle.oc_shows.specs.Manners.{elf_mark, elf_size};
-ghost use Rattle.oc_neutral.specs.Normal.{Place as Held};
+ghost use Rattle.oc_neutral.specs.Normal.{Place as HeldPlace};
 ghost use Rattle.oc_elf_file.specs.Symbols as symbols;
 ghost use Rattle.oc_elf_write.specs.Values.{AreValueFields};
 
@@ -72,7 +72,7 @@ fn global_place(binding: Binding) -> Option<(u32, u32)>
 // the place of the Global that a fallback names
 fn of_named(neutral: &Neutral, place: Option<(u32, u32)>) -> ValueFields
     requires there { IfSome place (λ p. p.0 < length neutral.now.sections) }
-    ensures { AreValueFields result (option_map_or (λ (p : Held). symbols.value_fields_at neutral.now p.0 p.1) place symbols.value_fields_elsewhere) }
+    ensures { AreValueFields result (option_map_or (λ (p : HeldPlace). symbols.value_fields_at neutral.now p.0 p.1) place symbols.value_fields_elsewhere) }
 {
     match place {
         Some((section, offset)) => at_place(neutral, section, offset),

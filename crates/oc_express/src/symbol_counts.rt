@@ -3,7 +3,7 @@ ghost use Rattle.std.specs.Prelude.{◌≡◌, ℕ, IfOk, [], length, count_by};
 ghost use Rattle.std.specs.Option.{option_map_or};
 ghost use Rattle.oc_base.specs.declared.format.Word.TheVariants.{W32, W64};
 ghost use Rattle.oc_linking.specs.FirstFault.{first_broken};
-ghost use Rattle.oc_neutral.specs.declared.symbol.Symbol.{Symbol as Named};
+ghost use Rattle.oc_neutral.specs.declared.symbol.Symbol.{Symbol as HeldSymbol};
 ghost use Rattle.oc_neutral.specs.Bindings as bindings;
 ghost use Rattle.oc_neutral.specs.Elf.Family as elf;
 ghost use Rattle.oc_neutral.specs.Families.{family_of};
@@ -34,7 +34,7 @@ fn is_external(binding: Binding) -> bool
 
 // how many symbols are Undefined or Common
 fn external_count(neutral: &Neutral) -> u32
-    ensures { result ≡ count_by (λ (s : Named). bindings.is_external s.binding) neutral.now.symbols }
+    ensures { result ≡ count_by (λ (s : HeldSymbol). bindings.is_external s.binding) neutral.now.symbols }
 {
     let mut count = 0;
     for k in 0..neutral.symbol_count() {

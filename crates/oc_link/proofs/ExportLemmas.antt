@@ -10,7 +10,7 @@ use Rattle.oc_linking.specs.{Parts.{Symbol, by_name, is_local}, Linking.{Export,
 use Rattle.oc_neutral.specs.{Objects.{Object}, Faces.{shown_symbol, shown_symbols}, Invariants.{IsObject}}
 use Rattle.oc_strings.specs.Repeats.{NameList, name_at, nonlocal_name}
 use Rattle.oc_strings.proofs.RepeatLemmas.{named_within}
-use Rattle.oc_place.specs.{declared.index.Named.{Named}, Indexes.{IsIndex, IsNamed, present, texts}, Placings.{Placing}, Written.{names_of}}
+use Rattle.oc_place.specs.{declared.index.NamedSymbol.{NamedSymbol}, Indexes.{IsIndex, IsNamed, present, texts}, Placings.{Placing}, Written.{names_of}}
 use Rattle.oc_place.proofs.IndexLemmas.{length-names, name_from, names, one_name}
 use Rattle.oc_link.specs.{Texts.{exported_text, in_order, name_text, nonlocal_names}, Pieces.{export_in, exports_text_of, symbol_text_of}, Values.{given, laid}}
 use Rattle.oc_link.proofs.OrderLemmas.{has-in_order, same_order, strict-in_order, strict_sorted}
@@ -61,7 +61,7 @@ all_differ (Some x ∷ all) one = (
         both true b e = absurd (true≢false e)
         both false b e = (refl, e)
 
-module _ (n : Object) (fine : IsObject n) (entries : List Named) (index : IsIndex (names_of (shown_symbols n)) entries) where
+module _ (n : Object) (fine : IsObject n) (entries : List NamedSymbol) (index : IsIndex (names_of (shown_symbols n)) entries) where
   -- the names of the entries are those of the symbols, in order
   ordered : texts entries ≡ in_order (nonlocal_names (shown_symbols n))
   ordered =
@@ -72,15 +72,15 @@ module _ (n : Object) (fine : IsObject n) (entries : List Named) (index : IsInde
       (λ q. sym (list_any-IsPermutation (bytes_eq q) (present all) (texts entries) index.moved) ∙ sym (has-in_order (present all) q))
       ∙ ap in_order (present_names (shown_symbols n))
     where
-      nobody : Named
+      nobody : NamedSymbol
       nobody = record { name = record { ref_ptr = (0, 0); now = [] }; at = 0 }
 
       named_at : (k : ℕ) (d : List ℕ) → k < length entries → get_or (texts entries) k d ≡ (get_or entries k nobody).name.now
-      named_at k d l = get_or-map (λ (x : Named). x.name.now) entries k nobody d l
+      named_at k d l = get_or-map (λ (x : NamedSymbol). x.name.now) entries k nobody d l
 
       sorted : IsSortedBy (λ a b. is_lt (slice_cmp nat_cmp a b)) (texts entries)
       sorted k d low l =
-          let long = length-map entries (λ (x : Named). x.name.now) in
+          let long = length-map entries (λ (x : NamedSymbol). x.name.now) in
           ap (λ a. is_lt (slice_cmp nat_cmp a (get_or (texts entries) k d))) (named_at (k + 1) d (omega (arith, l, long)))
           ∙ ap (λ b. is_lt (slice_cmp nat_cmp (get_or entries (k + 1) nobody).name.now b)) (named_at k d (omega (arith, l, long)))
           ∙ index.sorted k nobody low (omega (arith, l, long))
@@ -140,7 +140,7 @@ module _ (n : Object) (fine : IsObject n) (x : Placing) where
   name_shown j z here = ap option_flatten (slice_get-map (λ (y : Symbol). nonlocal_name y.binding y.name) (shown_symbols n) j ∙ ap (option_map (λ (y : Symbol). nonlocal_name y.binding y.name)) here)
 
   -- an entry exports what its name does
-  entry_is : (e : Named) → IsNamed (names_of (shown_symbols n)) e
+  entry_is : (e : NamedSymbol) → IsNamed (names_of (shown_symbols n)) e
       → symbol_text_of n x e.at ≡ name_text (word_for n.format) (exports (word_for n.format) (laid n x) (given n x) (shown_symbols n)) e.name.now
   entry_is e named =
       let m = name_from n e.at e.name.now named in
@@ -159,16 +159,16 @@ module _ (n : Object) (fine : IsObject n) (x : Placing) where
               (name_shown j z there ∙ ap (λ b. cond b None (Some z.name)) nonlocal ∙ ap Some is) named))
 
   -- of all
-  entries_are : (es : List Named) → ((k : ℕ) (d : Named) → k < length es → IsNamed (names_of (shown_symbols n)) (get_or es k d))
-      → flat_map (λ (e : Named). symbol_text_of n x e.at) es
+  entries_are : (es : List NamedSymbol) → ((k : ℕ) (d : NamedSymbol) → k < length es → IsNamed (names_of (shown_symbols n)) (get_or es k d))
+      → flat_map (λ (e : NamedSymbol). symbol_text_of n x e.at) es
       ≡ flat_map (name_text (word_for n.format) (exports (word_for n.format) (laid n x) (given n x) (shown_symbols n))) (texts es)
   entries_are [] each = refl
   entries_are (e ∷ es) each =
-      ap (λ t. t ++ flat_map (λ (f : Named). symbol_text_of n x f.at) es) (entry_is e (each 0 e (omega arith)))
+      ap (λ t. t ++ flat_map (λ (f : NamedSymbol). symbol_text_of n x f.at) es) (entry_is e (each 0 e (omega arith)))
       ∙ ap (λ t. name_text (word_for n.format) (exports (word_for n.format) (laid n x) (given n x) (shown_symbols n)) e.name.now ++ t) (entries_are es (λ k d l. each (suc k) d (omega (arith, l))))
 
   -- in order
-  pub exports_are : (entries : List Named) → IsIndex (names_of (shown_symbols n)) entries → flat_map (λ (e : Named). symbol_text_of n x e.at) entries ≡ exports_text_of n x
+  pub exports_are : (entries : List NamedSymbol) → IsIndex (names_of (shown_symbols n)) entries → flat_map (λ (e : NamedSymbol). symbol_text_of n x e.at) entries ≡ exports_text_of n x
   exports_are entries index =
       entries_are entries (λ k d l. index.each k d l)
       ∙ ap (flat_map (name_text (word_for n.format) (exports (word_for n.format) (laid n x) (given n x) (shown_symbols n)))) (ordered n fine entries index)

@@ -3,7 +3,7 @@ use Rattle.std.specs.{Prelude.{ℕ, List, [], ◌++◌, get_or, map, Option, sli
 use Rattle.oc_base.specs.Formats.{word_for}
 use Rattle.oc_linking.specs.{Parts.{Section, Symbol}, Images.{overlays}, Linking.{Export, export_of, exports}}
 use Rattle.oc_neutral.specs.{Objects.{Object}, Faces.{shown_sections, shown_symbols, frame_of}}
-use Rattle.oc_place.specs.{declared.index.Named.{Named}, Placings.{Placing}}
+use Rattle.oc_place.specs.{declared.index.NamedSymbol.{NamedSymbol}, Placings.{Placing}}
 use Rattle.oc_link.specs.{Texts.{exported_text, exports_text, image_text, section_text, sections_text}, Values.{contents, given, laid, patches}}
 
 -- its sections without contents
@@ -35,8 +35,8 @@ abbrev pub symbol_text_of : Object → Placing → ℕ → List ℕ
 symbol_text_of n x k = option_map_or (λ (y : Symbol). exported_text (word_for n.format) y.name (export_in n x y)) (slice_get (shown_symbols n) k) []
 
 -- of what the symbols of these names export
-abbrev pub names_text_of : Object → Placing → List Named → List ℕ
-names_text_of n x names = flat_map (λ (e : Named). symbol_text_of n x e.at) names
+abbrev pub names_text_of : Object → Placing → List NamedSymbol → List ℕ
+names_text_of n x names = flat_map (λ (e : NamedSymbol). symbol_text_of n x e.at) names
 
 -- of all that is exported
 abbrev pub exports_text_of : Object → Placing → List ℕ

@@ -16,7 +16,7 @@ use oc_base::{NoMemory, word_of};
 use oc_dump::{put_hex, put_name};
 use oc_linking::Binding;
 use oc_neutral::Neutral;
-use oc_place::{Named, Placements, index_of};
+use oc_place::{NamedSymbol, Placements, index_of};
 use std::alloc::Global;
 
 // puts ` NAME` and a newline
@@ -90,7 +90,7 @@ fn put_names(
     out: &mut String,
     object: &Neutral,
     placed: &Placements,
-    names: &[Named<'_>],
+    names: &[NamedSymbol<'_>],
 ) -> Result<(), NoMemory>
     requires index { IsIndex (names_of (shown_symbols object.now)) names.now }
     requires placing { IsPlacingOf object.now placed.now }

@@ -50,8 +50,9 @@ fn put_linked(
 /// position of a section, counted from 1; bytes and addresses are hexadecimal, the latter of 8 or 16
 /// digits, sizes and offsets decimal.
 ///
-/// `NoMemory` where memory ran out. Time is linear in the bytes, relocations and names, but for a sort
-/// of the names; memory is that of the text, of one section and of a slice and a number for each name.
+/// `NoMemory` where memory ran out, or where the text before a name and that name have more than 2^29
+/// bytes (`put_name`). Time is linear in the bytes, relocations and names, but for a sort of the names;
+/// memory is that of the text, of one section and of a slice and a number for each name.
 #[tactic(auto, unfolding(crate::specs::Linked::link_text_of))]
 pub fn link_text(alloc: Global, object: &Neutral, placed: &Placements) -> Result<Bytes, NoMemory>
     requires { IsPlacingOf object.now placed.now }

@@ -15,14 +15,14 @@ use Rattle.oc_runs.specs.declared.input.InputFault.TheVariants as input
 use Rattle.oc_runs.specs.Reports as reports
 use Rattle.oc_runs.proofs.Refused.{some_and, short_passed}
 use Rattle.oc_linker.specs.{declared.linking.LinkFault.{LinkFault}, Causes.{Explains, ExplainsPlacement, ExplainsText, IsObjectOf, outcome_with, text_outcome}}
-use Rattle.oc_linker.specs.Outcomes.{Outcome, Absent, Refusal, Misplacement, LinkText, linking_outcome, object_outcome, object_refusal, outcome_from, outcome_of, placement_outcome}
+use Rattle.oc_linker.specs.Outcomes.{Outcome, Absent, Refusal, Misplacement, LinkText, linking_outcome, object_outcome, link_refusal, outcome_from, outcome_of, placement_outcome}
 use Rattle.oc_linker.specs.{Runs.{ComesOf, IsAbsence}, Texts.{long_text, placement_text}}
 use Rattle.oc_linker.specs.declared.linking.LinkFault.TheVariants as fault
 
 -- ... the bytes of two files
 
 -- an object that is refused
-refused_outcome : (o p : Option (List ℕ)) (f : Fault) → IsSomeAnd o (λ b. object_refusal b ≡ Some f) → outcome_of o p ≡ Refusal f
+refused_outcome : (o p : Option (List ℕ)) (f : Fault) → IsSomeAnd o (λ b. link_refusal b ≡ Some f) → outcome_of o p ≡ Refusal f
 refused_outcome None p f is = absurd is
 refused_outcome (Some b) p f is = ap (object_outcome b p) is
 
@@ -40,7 +40,7 @@ module _ (footprints : FootprintsAgree) (texts : TextsAgree) where
       ∙ text_agrees f b n (texts f b n read.dialect fine read.shows) (placed_in (footprint_of n) t)
 
   -- the same where the file has no refusal and the placement is not too long
-  read_outcome : (o p : Option (List ℕ)) (n : Object) (t : List ℕ) (x : Outcome) → IsObject n → IsSomeAnd o (λ b. object_refusal b ≡ None) → IsSomeAnd o (λ b. IsRead all b n) → p ≡ Some t
+  read_outcome : (o p : Option (List ℕ)) (n : Object) (t : List ℕ) (x : Outcome) → IsObject n → IsSomeAnd o (λ b. link_refusal b ≡ None) → IsSomeAnd o (λ b. IsRead all b n) → p ≡ Some t
       → length t ≤ 67108864 → outcome_with n t ≡ x → outcome_of o p ≡ x
   read_outcome None p n t x fine accepted read placed short comes = absurd accepted
   read_outcome (Some b) p n t x fine accepted read placed short comes =
@@ -79,5 +79,5 @@ pub long_told : (name : List ℕ) (files : Option Held) (f : Fault) → HasRefus
 long_told name files f is m told = some_and (file_of name m) (λ b refused. long_refusal b f refused) (is.held m told)
 
 -- what comes of a refused object
-pub refusal_comes : (object placement : List ℕ) (files : Option Held) (f : Fault) → HasRefusal object_refusal object files (Some f) → ForSome files (ComesOf object placement (Refusal f))
+pub refusal_comes : (object placement : List ℕ) (files : Option Held) (f : Fault) → HasRefusal link_refusal object files (Some f) → ForSome files (ComesOf object placement (Refusal f))
 refusal_comes object placement files f is m told = refused_outcome (file_of object m) (file_of placement m) f (is.held m told)

@@ -7,8 +7,8 @@ use Rattle.oc_outside.specs.{Causes.{Rose}, Held.{Held}, Texts.{grown, TakesPref
 use Rattle.oc_runs.specs.declared.input.InputFault.TheVariants as input
 use Rattle.oc_runs.specs.{Ends.{IsWordless}, Refusals.{HasRefusal}, States.{State, IsRefusal, status_by}, Texts.{Tells}}
 use Rattle.oc_linker.specs.{declared.linking.LinkFault.{LinkFault}, Causes.{Explains, IsLinkReported}}
-use Rattle.oc_linker.specs.Outcomes.{Outcome, Absent, Refusal, Misplacement, LinkText, object_refusal, status_for}
-use Rattle.oc_linker.specs.{Runs.{ComesOf, DoesLink, IsAbsence, IsExact, IsLinking}, Texts.{long_text, placement_text, words_text}}
+use Rattle.oc_linker.specs.Outcomes.{Outcome, Absent, Refusal, Misplacement, LinkText, link_refusal, status_for}
+use Rattle.oc_linker.specs.{Runs.{ComesOf, DoesLink, IsAbsence, IsExactLink, IsLinking}, Texts.{long_text, placement_text, words_text}}
 use Rattle.oc_linker.specs.declared.linking.LinkFault.TheVariants as fault
 use Rattle.oc_linker.proofs.LinkLemmas.{refusal_comes}
 
@@ -47,7 +47,7 @@ not_9 is = elim is [ inl e ↦ omega (arith, e) | inr (inl e) ↦ omega (arith, 
 
 module _ (object placement : List ℕ) (files : Option Held) where
   -- what comes of two files decides the status
-  exact_by : (x : Outcome) (status : ℕ) → ForSome files (ComesOf object placement x) → status ≡ status_for x → IsExact object placement files status
+  exact_by : (x : Outcome) (status : ℕ) → ForSome files (ComesOf object placement x) → status ≡ status_for x → IsExactLink object placement files status
   exact_by x status comes named = λ m told. inr (named ∙ sym (ap status_for (comes m told)))
 
   -- and whether a file is absent
@@ -92,7 +92,7 @@ module _ (object placement : List ℕ) (before after : State) (status : ℕ) whe
   }
 
   -- the object is refused
-  linking_refused : (f : Fault) → HasRefusal object_refusal object before.held (Some f) → status ≡ status_by (class_of f.code)
+  linking_refused : (f : Fault) → HasRefusal link_refusal object before.held (Some f) → status ≡ status_by (class_of f.code)
       → Tells (message_of f) before.told after.told before.err_faults after.err_faults → IsLinking object placement before status after
   linking_refused f has by_class tells =
       let named : IsRefusal status = subst IsRefusal (sym by_class) (refusal_named (class_of f.code)) in

@@ -8,7 +8,7 @@ use Rattle.oc_place.specs.{Placings.{Placing, placed_in}, Footprints.{footprint_
 use Rattle.oc_link.specs.Linked.{link_text_of}
 use Rattle.oc_runs.specs.{Refusals.{HasRefusal}, Reports.{IsReported}, Texts.{Tells, memory_text}}
 use Rattle.oc_runs.specs.declared.input.InputFault.TheVariants as input
-use Rattle.oc_linker.specs.{declared.linking.LinkFault.{LinkFault}, Outcomes.{Outcome, LinkText, Misplacement, object_refusal}, Runs.{ComesOf, IsAbsence}}
+use Rattle.oc_linker.specs.{declared.linking.LinkFault.{LinkFault}, Outcomes.{Outcome, LinkText, Misplacement, link_refusal}, Runs.{ComesOf, IsAbsence}}
 use Rattle.oc_linker.specs.Texts.{long_text, placement_text}
 use Rattle.oc_linker.specs.declared.linking.LinkFault.TheVariants as fault
 
@@ -16,7 +16,7 @@ use Rattle.oc_linker.specs.declared.linking.LinkFault.TheVariants as fault
 
 -- the object is that of the file of this name, which has no refusal
 pub record IsObjectOf (object : List ℕ) (files : Option Held) (n : Object) : Type 0 where
-  pub accepted : HasRefusal object_refusal object files None
+  pub accepted : HasRefusal link_refusal object files None
   pub read : ForSome files (λ m. IsSomeAnd (file_of object m) (λ b. IsRead all b n))
 
 -- what comes of an object where placing it gives this
@@ -49,7 +49,7 @@ ExplainsPlacement placement files before after (fault.Placement line code) = ⊥
 -- the cause of a fault of two files, where the counts of failed reads were these
 module _ (object placement : List ℕ) (files : Option Held) (before after : ℕ) where
   abbrev pub Explains : LinkFault → Type 0
-  Explains (fault.Input (input.Refused f)) = HasRefusal object_refusal object files (Some f)
+  Explains (fault.Input (input.Refused f)) = HasRefusal link_refusal object files (Some f)
   Explains (fault.Input input.Unread) = Rose before after ⊎ IsAbsence object placement files
   Explains (fault.Input input.NoMemory) = Unit {0}
   Explains fault.TooLong = ForSome files (ComesOf object placement (Misplacement long_text))

@@ -22,8 +22,8 @@ pub data Outcome : Type 0 where
   LinkText : List ℕ → Outcome
 
 -- the first refusal of an object, of which all is kept, or none
-abbrev pub object_refusal : List ℕ → Option Fault
-object_refusal b = or_else (length_refusal b) (reading_refusal built all b)
+abbrev pub link_refusal : List ℕ → Option Fault
+link_refusal b = or_else (length_refusal b) (reading_refusal built all b)
 
 -- what comes of a file of the dialect where placing it gives this
 abbrev pub linking_outcome : Dialect → List ℕ → Result Placing Bad → Outcome
@@ -52,7 +52,7 @@ object_outcome b placement None = placement_outcome b placement
 -- what comes of an object and a placement, where they are held
 abbrev pub outcome_of : Option (List ℕ) → Option (List ℕ) → Outcome
 outcome_of None placement = Absent
-outcome_of (Some b) placement = object_outcome b placement (object_refusal b)
+outcome_of (Some b) placement = object_outcome b placement (link_refusal b)
 
 -- the status
 abbrev pub status_for : Outcome → ℕ

@@ -2,7 +2,7 @@
 use Rattle.std.specs.{Prelude.{◌≡◌, ℕ, ◌⊎◌, List, [], ◌∷◌, Option}, Option.{ForSome, IsSomeAnd}}
 use Rattle.oc_outside.specs.{Causes.{IsSteady, Rose}, Held.{Held, file_of}, Texts.{grown, TakesPrefix}}
 use Rattle.oc_runs.specs.{Ends.{IsEnd, IsWordless}, Refusals.{TellsRefusal}, States.{State, IsRefusal}, Texts.{Tells}}
-use Rattle.oc_linker.specs.{Outcomes.{Outcome, Absent, Misplacement, LinkText, object_refusal, outcome_of, status_for}, Texts.{words_text}}
+use Rattle.oc_linker.specs.{Outcomes.{Outcome, Absent, Misplacement, LinkText, link_refusal, outcome_of, status_for}, Texts.{words_text}}
 
 -- ... of two names
 
@@ -34,19 +34,19 @@ module _ (object placement : List ℕ) where
     pub shown : TakesPrefix text before.shown after.shown
 
   -- where contracts see the files, the status is that of what comes of the two, or 7
-  abbrev pub IsExact : Option Held → ℕ → Type 0
-  IsExact files status = ForSome files (λ m. (status ≡ 7) ⊎ (status ≡ status_for (outcome_of (file_of object m) (file_of placement m))))
+  abbrev pub IsExactLink : Option Held → ℕ → Type 0
+  IsExactLink files status = ForSome files (λ m. (status ≡ 7) ⊎ (status ≡ status_for (outcome_of (file_of object m) (file_of placement m))))
 
   -- the object is linked at the placement
   pub record IsLinking (before : State) (status : ℕ) (after : State) : Type 0 where
     pub words : status ≡ 3 → ⊥
-    pub refused : IsRefusal status → TellsRefusal object_refusal object before status after
+    pub refused : IsRefusal status → TellsRefusal link_refusal object before status after
     pub unread : status ≡ 4 → Rose before.read_faults after.read_faults ⊎ IsAbsence before.held
     pub absent : IsAbsence before.held → (status ≡ 4) ⊎ (status ≡ 7)
     pub misplaced : status ≡ 9 → TellsMisplacement before after
     pub linked : status ≡ 0 → ShowsText before after
     pub partly : status ≡ 6 → ShowsPrefix before after
-    pub exact : IsSteady before.read_faults after.read_faults → IsSteady before.out_faults after.out_faults → IsExact before.held status
+    pub exact : IsSteady before.read_faults after.read_faults → IsSteady before.out_faults after.out_faults → IsExactLink before.held status
 
 -- ... of any words
 

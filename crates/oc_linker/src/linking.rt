@@ -6,7 +6,7 @@ ghost use Rattle.oc_outside.specs.Causes.{Counts};
 ghost use Rattle.oc_outside.specs.Held.{file_of};
 ghost use Rattle.oc_runs.specs.Reports as reports;
 ghost use Rattle.oc_linker.specs.Causes as causes;
-ghost use Rattle.oc_linker.specs.Outcomes.{LinkText, object_refusal};
+ghost use Rattle.oc_linker.specs.Outcomes.{LinkText, link_refusal};
 ghost use Rattle.oc_linker.specs.Runs.{ComesOf};
 
 use oc_base::{Bytes, NoMemory, Stop};
@@ -66,7 +66,7 @@ fn object_of<R: ReadsAny, F: Files>(
     name: &str,
 ) -> Result<Neutral, InputFault>
     ensures object { IfOk result (causes.IsObjectOf name.now (F.held files.old)) }
-    ensures fault { IfErr result (reports.Explains object_refusal name.now (F.held files.old)
+    ensures fault { IfErr result (reports.Explains link_refusal name.now (F.held files.old)
         (F.read_faults files.old) (F.read_faults files.new)) }
     ensures same { F.held files.new ≡ F.held files.old }
     ensures counts { Counts (F.read_faults files.old) (F.read_faults files.new)

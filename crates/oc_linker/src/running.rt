@@ -51,7 +51,7 @@ fn link_files<R: ReadsAny, F: Files, C: Console>(
 /// - 1, 2, 8: the object has a first refusal, which is malformed, refused or a limit. 9: it has
 ///   none, and the placement is at fault, or has more than 67,108,864 bytes.
 /// - 3: the words are not two. 4: a read failed, or a file that is to be read is not held.
-///   7: memory ran out.
+///   7: memory ran out, or the object or the text is above a ceiling of `oc_weight`.
 ///
 /// There is no other status. With all but 0 and 6 nothing was shown, and the cause was reported;
 /// where reporting it fails, the status stays. Where no call fails, only lack of memory comes in

@@ -11,6 +11,7 @@ pub mod Numbers
 pub mod Parts
 pub mod Placing
 pub mod Plain
+pub mod Raising
 pub mod Rules
 pub mod Shows
 pub mod Targets

@@ -32,7 +32,7 @@ module _ (listing : Listing) where
       pub listed : (m : Held) → files ≡ Some m → IsSomeAnd (file_of input m) (λ b. IsListed b text)
 
     -- the listing was shown
-    pub record IsShown (files : Option Held) (before now : Option (List ℕ)) : Type 0 where
+    pub record ShowsListing (files : Option Held) (before now : Option (List ℕ)) : Type 0 where
       pub text : List ℕ
       pub lists : IsListing files text
       pub shown : now ≡ grown text before
@@ -47,7 +47,7 @@ module _ (listing : Listing) where
     pub record ListsInput (before : State) (status : ℕ) (after : State) : Type 0 where
       pub judged : IsJudged list_refusal input before status after
       pub exact : IsSteady before.read_faults after.read_faults → IsSteady before.out_faults after.out_faults → IsExact list_refusal input before.held status
-      pub listed : status ≡ 0 → IsShown before.held before.shown after.shown
+      pub listed : status ≡ 0 → ShowsListing before.held before.shown after.shown
       pub partly : status ≡ 6 → IsPartlyShown before.held before.shown after.shown
       -- no file is changed, and none is written
       pub held : after.held ≡ before.held

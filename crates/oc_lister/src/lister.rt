@@ -117,7 +117,8 @@ fn list_input<R: ReadsAny, F: Files, C: Console>(
 /// - 0: the listing was shown whole. 6: standard output took a prefix of it, and then failed.
 /// - 1, 2, 8: the file has a first refusal, whose message was reported.
 /// - 3: the words ask for no listing; nothing was read. 4: a read failed, or the file is not held.
-///   7: memory ran out, before anything was shown.
+///   7: memory ran out, before anything was shown, or the file or the listing is above a ceiling of
+///   `oc_weight`.
 ///
 /// No file is changed. Takes the time of reading and listing, and memory for the file, the object
 /// and the text.

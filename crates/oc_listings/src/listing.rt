@@ -32,7 +32,8 @@ pub enum Listing {
 ///   digits, or 16 in an object of 64 bits.
 ///
 /// Names are shown as in a listing of symbols, all other numbers in decimal. `NoMemory` where memory ran
-/// out. Linear in what is listed and the names of it; takes memory for the text.
+/// out, or where the text before a name and that name have more than 2^29 bytes (`put_name`). Linear in
+/// what is listed and the names of it; takes memory for the text.
 #[tactic(auto, unfolding(crate::specs::ObjectListings::object_listing))]
 pub fn object_text(
     alloc: Global,

@@ -10,7 +10,7 @@ ghost use Rattle.oc_macho_read.specs.Adding.{IsReady};
 ghost use Rattle.oc_macho_read.specs.Built.{started};
 ghost use Rattle.oc_macho_read.specs.Given as given;
 
-use crate::aims::Known;
+use crate::aims::RelocContext;
 use crate::built_relocs::{in_order, reloc_for};
 use oc_base::NoMemory;
 use oc_macho::{Frame, SectionHeader, kind_of};
@@ -22,7 +22,7 @@ use std::alloc::Global;
 // adds the relocation of field `j` of those of section `i`
 fn add_field(
     frame: &Frame,
-    known: &Known,
+    known: &RelocContext,
     builder: &mut Builder,
     i: u32,
     h: &SectionHeader,
@@ -47,7 +47,7 @@ fn add_field(
 fn add_table(
     alloc: Global,
     frame: &Frame,
-    known: &Known,
+    known: &RelocContext,
     builder: &mut Builder,
     i: u32,
     h: &SectionHeader,
@@ -70,7 +70,7 @@ fn add_table(
 fn add_relocs_of(
     alloc: Global,
     frame: &Frame,
-    known: &Known,
+    known: &RelocContext,
     builder: &mut Builder,
     i: u32,
 ) -> Result<(), NoMemory>
@@ -94,7 +94,7 @@ fn add_relocs_of(
 pub(crate) fn add_relocations(
     alloc: Global,
     frame: &Frame,
-    known: &Known,
+    known: &RelocContext,
     builder: &mut Builder,
 ) -> Result<(), NoMemory>
     requires ready { IsReady frame.now known.now.keep known.now.positions.now }

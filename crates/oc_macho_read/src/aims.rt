@@ -30,7 +30,7 @@ pub(crate) struct Aim {
 /// What relocations are made by beside the file: which sections are kept, the positions of the carried
 /// symbols, and which section holds an address.
 #[derive(Clone, Copy)]
-pub(crate) struct Known<'a> {
+pub(crate) struct RelocContext<'a> {
     /// The kinds of sections that are kept.
     pub(crate) keep: Keep,
     /// The position of each symbol among the carried ones, by its number.
@@ -63,7 +63,7 @@ fn holder_aim(frame: &Frame, holders: &Holders, v: u32) -> Aim
 }
 
 // symbol `j`; one that is not carried stands for its section
-fn symbol_aim(frame: &Frame, known: &Known, j: u32) -> Aim
+fn symbol_aim(frame: &Frame, known: &RelocContext, j: u32) -> Aim
     requires positions { AreSlots (symbol_position frame.now known.now.keep) (length frame.now.symbols) known.now.positions.now }
     requires there { j < length frame.now.symbols }
     ensures { result ≡ given.aim_for frame.now known.now.keep (Symbol j) }
@@ -84,7 +84,7 @@ fn symbol_aim(frame: &Frame, known: &Known, j: u32) -> Aim
 
 /// What a reference is to, where a field can refer so. Constant time for a symbol or a section's
 /// number; for an address that of a look-up among the sections.
-pub(crate) fn aim_of(frame: &Frame, known: &Known, r: Reference) -> Aim
+pub(crate) fn aim_of(frame: &Frame, known: &RelocContext, r: Reference) -> Aim
     requires positions { AreSlots (symbol_position frame.now known.now.keep) (length frame.now.symbols) known.now.positions.now }
     requires holders { AreHolders frame.now known.now.holders.now }
     requires aimed { given.IsAimed frame.now r }
@@ -98,7 +98,7 @@ pub(crate) fn aim_of(frame: &Frame, known: &Known, r: Reference) -> Aim
 }
 
 /// What a pair takes. The time is that of `aim_of`.
-pub(crate) fn taken_aim(frame: &Frame, known: &Known, item: &Item) -> Option<Aim>
+pub(crate) fn taken_aim(frame: &Frame, known: &RelocContext, item: &Item) -> Option<Aim>
     requires positions { AreSlots (symbol_position frame.now known.now.keep) (length frame.now.symbols) known.now.positions.now }
     requires holders { AreHolders frame.now known.now.holders.now }
     requires aimed { given.AreAimed frame.now item.now }

@@ -17,7 +17,7 @@ ghost use Rattle.oc_macho.specs.Sections as sections;
 ghost use Rattle.oc_macho_read.specs.Built.{AreRead, symbol_position};
 ghost use Rattle.oc_macho_read.specs.Given as given;
 
-use crate::aims::{Aim, Known, aim_of, taken_aim};
+use crate::aims::{Aim, RelocContext, aim_of, taken_aim};
 use oc_algebra::{extend, field_at, reduce};
 use oc_base::{NoMemory, Word};
 use oc_macho::{Frame, Item, Meaning, SectionHeader, meaning_of};
@@ -147,7 +147,7 @@ fn reloc_as(word: Word, site: Site, meaning: &Meaning, target: &Aim, taken: Opti
 // the relocation of the entries of a field of section `i` with that meaning
 fn reloc_with(
     frame: &Frame,
-    known: &Known,
+    known: &RelocContext,
     i: u32,
     h: &SectionHeader,
     item: &Item,
@@ -178,7 +178,7 @@ fn reloc_with(
 /// their type is not known. The time is that of `aim_of`.
 pub(crate) fn reloc_for(
     frame: &Frame,
-    known: &Known,
+    known: &RelocContext,
     i: u32,
     h: &SectionHeader,
     item: &Item,

@@ -13,7 +13,7 @@ ghost use Rattle.oc_macho_read.specs.Adding.{IsClean};
 ghost use Rattle.oc_macho_read.specs.Built as built;
 
 use crate::added_relocs::add_relocations;
-use crate::aims::Known;
+use crate::aims::RelocContext;
 use crate::built_sections::add_sections;
 use crate::built_symbols::add_symbols;
 use oc_base::{NoMemory, Stop, Word};
@@ -50,7 +50,7 @@ fn object_of(alloc: Global, file: &[u8], found: &Found, keep: &Keep) -> Result<N
     builder.is_draft();
     // the proof asks that there are few
     let _count = found.frame.symbol_count();
-    let known = Known {
+    let known = RelocContext {
         keep: *keep,
         positions: &positions,
         holders: &found.holders,
@@ -73,7 +73,9 @@ fn read_bytes(alloc: Global, word: Word, bytes: &[u8], keep: &Keep) -> Result<Ne
 
 /// The reader of Mach-O objects of 32 bits, for i386.
 ///
-/// The time is that of `judged`, and linear in the bytes of the file.
+/// The time is that of `judged`, and linear in the bytes of the file. Names of symbols that weigh more
+/// than 1 GiB, and tables of more than 2^23 relocations, are want of memory before any is taken
+/// (`oc_weight`).
 #[derive(Clone, Copy, Debug)]
 pub struct MachReader32;
 
@@ -93,7 +95,9 @@ impl Reads for MachReader32 {
 
 /// The reader of Mach-O objects of 64 bits, for x86-64.
 ///
-/// The time is that of `judged`, and linear in the bytes of the file.
+/// The time is that of `judged`, and linear in the bytes of the file. Names of symbols that weigh more
+/// than 1 GiB, and tables of more than 2^23 relocations, are want of memory before any is taken
+/// (`oc_weight`).
 #[derive(Clone, Copy, Debug)]
 pub struct MachReader64;
 

@@ -2,7 +2,7 @@
 //! "segment_command", "section" and "symtab_command").
 ghost use Rattle.std.specs.Prelude.{◌≡◌, ◌<◌, ◌^◌, ℕ, length, slice_get, Some, IfOk, if◌then◌else◌, nat_eq};
 ghost use Rattle.oc_neutral.specs.Objects.{Object};
-ghost use Rattle.oc_neutral.specs.declared.section.Section.{Section as Held};
+ghost use Rattle.oc_neutral.specs.declared.section.Section.{Section as HeldSection};
 ghost use Rattle.oc_macho_file.specs.Canonical as canonical;
 ghost use Rattle.oc_macho_write.specs.Addresses.{AreAllAddresses};
 ghost use Rattle.oc_macho_write.specs.Heads as heads;
@@ -83,7 +83,7 @@ fn pointer_to(place: u64, count: usize) -> u32
 fn section_header(output: &Output, position: u32) -> SectionHeader
     requires made { heads.IsOutput output.now }
     requires there { position < length output.now.neutral.now.sections }
-    ensures { (s : Held) → slice_get output.now.neutral.now.sections position ≡ Some s
+    ensures { (s : HeldSection) → slice_get output.now.neutral.now.sections position ≡ Some s
         → result ≡ canonical.section_header output.now.word output.now.neutral.now (position, s) }
 {
     let section = output.neutral.section(position);

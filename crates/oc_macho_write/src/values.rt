@@ -5,7 +5,7 @@ ghost use Rattle.oc_neutral.specs.Invariants.{IsBinding, IsFallback, IsValue};
 ghost use Rattle.oc_neutral.specs.KeySymbols as keys;
 ghost use Rattle.oc_neutral.specs.Objects.{Object};
 ghost use Rattle.oc_shows.specs.Manners.{hidden, mach_vis};
-ghost use Rattle.oc_neutral.specs.Normal.{Place as Held};
+ghost use Rattle.oc_neutral.specs.Normal.{Place as HeldPlace};
 ghost use Rattle.oc_macho_file.specs.Symbols as symbols;
 ghost use Rattle.oc_macho_write.specs.Values.{AreAddresses, AreValueFields};
 
@@ -92,7 +92,7 @@ pub(crate) fn global_place(binding: Binding) -> Option<(u32, u32)>
 fn of_named(addresses: &[u64], place: Option<(u32, u32)>) -> ValueFields
     requires { (n : Object) × (AreAddresses n addresses.now) × IfSome place (λ p. p.0 < length n.sections) }
     ensures { (n : Object) → AreAddresses n addresses.now
-        → AreValueFields result (option_map_or (λ (p : Held). symbols.value_fields_at n p.0 p.1) place (symbols.value_fields_elsewhere 0)) }
+        → AreValueFields result (option_map_or (λ (p : HeldPlace). symbols.value_fields_at n p.0 p.1) place (symbols.value_fields_elsewhere 0)) }
 {
     match place {
         Some((section, offset)) => at_place(addresses, section, offset),

@@ -13,7 +13,7 @@ use Rattle.oc_names.specs.{Wishes.{no_wishes}, Edited.{edited}, Kept.{keep_for}}
 use Rattle.oc_convert.specs.Refusals.{first_refusal, object_refusal, edited_refusal, kept_of_file}
 use Rattle.oc_convert.specs.Dispatched.{dispatch_refusal, refusal_from, header_refusal}
 use Rattle.oc_built.specs.Built.{built, reader_of}
-use Rattle.oc_canonical.proofs.Known.{elf_known}
+use Rattle.oc_canonical.proofs.FirstBytes.{elf_known}
 use Rattle.oc_elf.specs.{declared.class.ElfClass.{ElfClass}, declared.class.ElfClass.TheVariants.{Class32, Class64}, Classes.{format_of}, Elf.{elf_dialect}}
 use Rattle.oc_elf_file.specs.Canonical.{elf_file}
 use Rattle.oc_made.specs.{Files.{class_for, made_bytes}, Functions.{calls_of, elf_format, made_object, symbols_of, text_section}}

@@ -9,7 +9,8 @@ use Rattle.oc_linking.specs.{Placing.{zeros}, Values.{Valuation, numbered, worth
 use Rattle.oc_linking.specs.declared.terms.Base.TheVariants as base
 use Rattle.oc_linking.specs.declared.terms.Less.TheVariants as less
 use Rattle.oc_linking.specs.Parts as parts
-use Rattle.oc_linking.proofs.{Dropping.{numbered-raised}, Raising.{raised, raised_binding}}
+use Rattle.oc_linking.specs.Raising.{raised, raised_binding}
+use Rattle.oc_linking.proofs.Dropping.{numbered-raised}
 use Rattle.oc_neutral.specs.{declared.symbol.Symbol.{Symbol}, declared.reloc.Target.{Target}, declared.reloc.Reloc.{Reloc}, Objects.{Object, reloc_at}}
 use Rattle.oc_neutral.specs.{Invariants.{IsThere, IsLessThere, IsObject}, Faces.{number_of, named_of, shown_symbols}}
 use Rattle.oc_neutral.specs.Normal.{Place, local_place, place_among, cancels}

@@ -145,7 +145,7 @@ module _ (n : Object) (is : IsForOmf n) where
       (omf_table n strong).table.once i j (line_of o) (line_of p) (key_of o) (line i o here) (line j p there) refl (ap Some (sym same))
 
   -- what an output of a symbol says
-  pub record IsListed (o : Output) : Type 0 where
+  pub record SaysSymbol (o : Output) : Type 0 where
     pub symbol : Symbol
     pub there : slice_get n.symbols (key_of o) ≡ Some symbol
     pub outer : is_local symbol.binding ≡ false
@@ -157,7 +157,7 @@ module _ (n : Object) (is : IsForOmf n) where
   listed_public k s (value.Place a b) here e = rw e refl
   listed_public k s (value.Absolute x) here e = absurd ((is.meets.symbols k s here).placed x e)
 
-  pub listed : (o : Output) → OfSymbol n o → IsListed o
+  pub listed : (o : Output) → OfSymbol n o → SaysSymbol o
   listed output.Header e = absurd e
   listed (output.Names names) e = absurd e
   listed (output.Segment k s) e = absurd e
@@ -169,7 +169,7 @@ module _ (n : Object) (is : IsForOmf n) where
   listed (output.Fixups k s from to) e = absurd e
   listed output.End e = absurd e
 
-  pub listed_at : (i : ℕ) (o : Output) → slice_get (symbol_outputs n) i ≡ Some o → IsListed o
+  pub listed_at : (i : ℕ) (o : Output) → slice_get (symbol_outputs n) i ≡ Some o → SaysSymbol o
   listed_at i o h = listed o (symbols_are n i o h)
 
   -- names differ

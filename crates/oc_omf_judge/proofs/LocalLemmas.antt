@@ -3,7 +3,7 @@ use Rattle.std.proofs.Common.{◌≡◌, ℕ, Bool, true, false, cond, List, [],
 use Rattle.std.specs.{Prelude.{◌&&◌, bytes_eq, is_some}, List.{find, list_any}, Map.{update}, Option.{option_map, option_or}}
 use Rattle.std.proofs.lemmas.{Bool.{true≢false, and_parts}, List.Folds.{find-append}, Slice.Eq.{bytes_eq-Decides}}
 use Rattle.oc_omf.specs.{Structures.{Public}, Symbols.{agree, public_mention, same_symbol}}
-use Rattle.oc_omf_judge.specs.{Held.{Held, value_at}, EarlierSymbols.{AreNamed}, Locals.{AreLocals, local_mention}}
+use Rattle.oc_omf_judge.specs.{NameNumbers.{NameNumbers, value_at}, EarlierSymbols.{AreNamed}, Locals.{AreLocals, local_mention}}
 use Rattle.oc_omf_judge.proofs.SeenSteps.{same_way}
 
 -- the first definition that this module alone sees under a name
@@ -26,11 +26,11 @@ abbrev segment_in : Option Public → Option ℕ
 segment_in o = option_map (λ (p : Public). p.segment) o
 
 -- one that others see
-pub local_other : (publics : List Public) (held : Held) (p : Public) → AreLocals publics held → p.local ≡ false → AreLocals (publics ++ p ∷ []) held
+pub local_other : (publics : List Public) (held : NameNumbers) (p : Public) → AreLocals publics held → p.local ≡ false → AreLocals (publics ++ p ∷ []) held
 local_other publics held p are other name = are name ∙ ap segment_in (sym (not_first name publics p (ap (λ b. agree true b && bytes_eq name p.name) other)))
 
 -- one whose name is held
-pub local_known : (publics : List Public) (held : Held) (p : Public) → AreLocals publics held → is_some (value_at held p.name) ≡ true → AreLocals (publics ++ p ∷ []) held
+pub local_known : (publics : List Public) (held : NameNumbers) (p : Public) → AreLocals publics held → is_some (value_at held p.name) ≡ true → AreLocals (publics ++ p ∷ []) held
 local_known publics held p are known name = by (first_local name publics) refl (same_symbol (local_mention name) (public_mention p)) refl
   where
     by : (o : Option Public) → first_local name publics ≡ o → (b : Bool) → same_symbol (local_mention name) (public_mention p) ≡ b → value_at held name ≡ segment_in (first_local name (publics ++ p ∷ []))
@@ -41,7 +41,7 @@ local_known publics held p are known name = by (first_local name publics) refl (
         absurd (true≢false (sym known ∙ ap (λ (n : List ℕ). is_some (value_at held n)) (sym named) ∙ ap is_some (are name ∙ ap segment_in e)))
 
 -- one that is new
-pub local_new : (publics : List Public) (old new : Held) (p : Public) → AreLocals publics old → p.local ≡ true → is_some (value_at old p.name) ≡ false
+pub local_new : (publics : List Public) (old new : NameNumbers) (p : Public) → AreLocals publics old → p.local ≡ true → is_some (value_at old p.name) ≡ false
     → ((other : List ℕ) → value_at new other ≡ update bytes_eq (value_at old) p.name (Some p.segment) other) → AreLocals (publics ++ p ∷ []) new
 local_new publics old new p are local free taken name = taken name ∙ by (bytes_eq p.name name) refl
   where
@@ -66,7 +66,7 @@ local_new publics old new p are local free taken name = taken name ∙ by (bytes
         nothing false = refl
 
 -- the names that are held are those of definitions that this module alone sees
-pub named_locals : (publics : List Public) (held : Held) → AreLocals publics held → AreNamed true publics held
+pub named_locals : (publics : List Public) (held : NameNumbers) → AreLocals publics held → AreNamed true publics held
 named_locals publics held are name = ap is_some (are name) ∙ found publics
   where
     found : (ps : List Public) → is_some (segment_in (first_local name ps)) ≡ list_any (λ p. same_symbol (local_mention name) (public_mention p)) ps

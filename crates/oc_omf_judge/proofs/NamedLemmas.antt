@@ -6,13 +6,13 @@ use denote.Ref.{Bor}
 use Rattle.oc_linking.specs.{declared.terms.Binding.TheVariants.{Undefined, Common}, Rules.{Symbolic, Sectional, Named as Shown}, Values.{numbered}}
 use Rattle.oc_linking.specs.Targets.{Target, named_by, symbol_target}
 use Rattle.oc_neutral.specs.Powers.{natural_align}
-use Rattle.oc_omf_judge.specs.{declared.earlier.External.{External as Mentioned}, Held.{Held, value_at}, EarlierSymbols.{mention_of}}
+use Rattle.oc_omf_judge.specs.{declared.earlier.SeenExternal.{SeenExternal}, NameNumbers.{NameNumbers, value_at}, EarlierSymbols.{mention_of}}
 use Rattle.oc_omf_judge.specs.{declared.whole.Whole.{Whole}, Locals.{AreLocals}, Named.{named_external, named_of, named_symbol, section_at, shown}}
 use Rattle.oc_omf_judge.specs.Whole.{IsWhole, entries, meaning, tables}
 use Rattle.oc_omf.specs.{declared.structures.Method.{Method}, Structures.{External, Public}, Tables.{Tables, indexed}}
 use Rattle.oc_omf.specs.Symbols.{Mention, binding_of, communal_of, external_mention, mentions_in, number_of, public_binding, public_mention, public_of, same_symbol, symbol_of, symbols_in}
 use Rattle.oc_omf.specs.Targets.{external_at, meaning_of, section_target, target_of}
-use Rattle.oc_omf_judge.specs.declared.named.Named.TheVariants as named
+use Rattle.oc_omf_judge.specs.declared.named.Referent.TheVariants as named
 use Rattle.oc_omf_judge.proofs.MentionLemmas.{IsAmong, external_mentioned, numbered_among, same_is}
 
 -- ... symbols
@@ -33,10 +33,10 @@ outside k (Some size) = refl
 outside k None = refl
 
 -- what is shown of a symbol, by whether this module alone sees it
-abbrev shown_symbol : List Mention → Held → Mention → Shown
+abbrev shown_symbol : List Mention → NameNumbers → Mention → Shown
 shown_symbol ms locals x = if x.local then option_map_or (λ (s : ℕ). Sectional (s - 1)) (value_at locals x.name) (Symbolic (number_of ms x)) else Symbolic (number_of ms x)
 
-shown_is : (ms : List Mention) (locals : Held) (local : Bool) (name : Bor (List ℕ)) → shown ms (named_symbol locals local name) ≡ shown_symbol ms locals (record { local = local; name = name.now })
+shown_is : (ms : List Mention) (locals : NameNumbers) (local : Bool) (name : Bor (List ℕ)) → shown ms (named_symbol locals local name) ≡ shown_symbol ms locals (record { local = local; name = name.now })
 shown_is ms locals false name = refl
 shown_is ms locals true name = by (value_at locals name.now)
   where
@@ -45,7 +45,7 @@ shown_is ms locals true name = by (value_at locals name.now)
     by None = refl
 
 -- what its binding names
-named_binding : (t : Tables) (ms : List Mention) (locals : Held) (x : Mention) → AreLocals t.publics locals → named_by (number_of ms x) (binding_of t x) ≡ Some (shown_symbol ms locals x)
+named_binding : (t : Tables) (ms : List Mention) (locals : NameNumbers) (x : Mention) → AreLocals t.publics locals → named_by (number_of ms x) (binding_of t x) ≡ Some (shown_symbol ms locals x)
 unfolding binding_of
 named_binding t ms locals x are = by x.local refl (public_of t x) refl
   where
@@ -132,7 +132,7 @@ external_kept w is k =
     ms : List Mention
     ms = mentions_in (entries w)
 
-    by : (o : Option Mentioned) → option_map (shown ms) (option_map (λ (x : Mentioned). named_symbol w.locals x.local x.name) o) ≡ option_map (shown_symbol ms w.locals) (option_map mention_of o)
+    by : (o : Option SeenExternal) → option_map (shown ms) (option_map (λ (x : SeenExternal). named_symbol w.locals x.local x.name) o) ≡ option_map (shown_symbol ms w.locals) (option_map mention_of o)
     by None = refl
     by (Some x) = ap (λ (n : Shown). Some n) (shown_is ms w.locals x.local x.name)
 

@@ -5,36 +5,36 @@ use Rattle.std.proofs.lemmas.Option.{none-some}
 use denote.Ref.{Bor}
 use Rattle.oc_linking.specs.{Rules.{Sectional, Named as Shown}, Targets.{Target}}
 use Rattle.oc_neutral.specs.Omf.Relocs.{ByFlat, ByTarget, BySelf, fixup_row}
-use Rattle.oc_omf_judge.specs.{declared.earlier.External.{External as Mentioned}, Held.{Held, value_at}, EarlierSymbols.{mention_of}}
-use Rattle.oc_omf_judge.specs.{declared.named.Named.{Named}, declared.whole.Whole.{Whole}}
+use Rattle.oc_omf_judge.specs.{declared.earlier.SeenExternal.{SeenExternal}, NameNumbers.{NameNumbers, value_at}, EarlierSymbols.{mention_of}}
+use Rattle.oc_omf_judge.specs.{declared.named.Referent.{Referent}, declared.whole.Whole.{Whole}}
 use Rattle.oc_omf_judge.specs.Named.{named_external, named_of, named_symbol, same, section_at, shown}
 use Rattle.oc_omf_judge.specs.Whole.{IsWhole, entries, is_flat_group, meaning, tables}
 use Rattle.oc_omf.specs.{declared.structures.Method.{Method}, Structures.{External, Group, Piece}, Tables.{indexed, name_at}}
 use Rattle.oc_omf.specs.{Symbols.{Mention, external_mention, mentions_in}, Fixups.{Fixed}, Fields.{aim_of, framed_row, row_of}}
 use Rattle.oc_omf.specs.Targets.{frame_of, is_flat, is_named_by, meaning_of, same_named, target_of}
 use Rattle.oc_omf.specs.RelocationFaults as faults
-use Rattle.oc_omf_judge.specs.declared.named.Named.TheVariants as named
+use Rattle.oc_omf_judge.specs.declared.named.Referent.TheVariants as named
 use Rattle.oc_omf_judge.specs.Rows as rows
 use Rattle.oc_omf_judge.proofs.{MentionLemmas.{IsAmong, same_number}, NamedLemmas.{external_there, indexed-map, named_is}}
 
 -- ... two that are one
 
 -- a symbol that is kept is mentioned
-abbrev pub IsMentioned : List Mention → Named → Type 0
+abbrev pub IsMentioned : List Mention → Referent → Type 0
 IsMentioned ms (named.Section k) = Unit {0}
 IsMentioned ms (named.Symbol local name) = IsAmong ms (record { local = local; name = name.now })
 
-abbrev AllMentioned : List Mention → Option Named → Type 0
-AllMentioned ms o = (n : Named) → o ≡ Some n → IsMentioned ms n
+abbrev AllMentioned : List Mention → Option Referent → Type 0
+AllMentioned ms o = (n : Referent) → o ≡ Some n → IsMentioned ms n
 
-same_shown : (ms : List Mention) (a b : Named) → IsMentioned ms a → IsMentioned ms b → same a b ≡ same_named (shown ms a) (shown ms b)
+same_shown : (ms : List Mention) (a b : Referent) → IsMentioned ms a → IsMentioned ms b → same a b ≡ same_named (shown ms a) (shown ms b)
 same_shown ms (named.Section j) (named.Section k) here there = refl
 same_shown ms (named.Section j) (named.Symbol local name) here there = refl
 same_shown ms (named.Symbol local name) (named.Section k) here there = refl
 same_shown ms (named.Symbol local name) (named.Symbol other_local other_name) here there =
     sym (same_number ms (record { local = local; name = name.now }) (record { local = other_local; name = other_name.now }) here there)
 
-symbol_mentioned : (ms : List Mention) (locals : Held) (local : Bool) (name : Bor (List ℕ)) → IsAmong ms (record { local = local; name = name.now }) → IsMentioned ms (named_symbol locals local name)
+symbol_mentioned : (ms : List Mention) (locals : NameNumbers) (local : Bool) (name : Bor (List ℕ)) → IsAmong ms (record { local = local; name = name.now }) → IsMentioned ms (named_symbol locals local name)
 symbol_mentioned ms locals false name there = there
 symbol_mentioned ms locals true name there = by (value_at locals name.now)
   where
@@ -43,7 +43,7 @@ symbol_mentioned ms locals true name there = by (value_at locals name.now)
     by None = there
 
 -- an external that is kept is that of its mention
-kept_external : (w : Whole) → IsWhole w → (k : ℕ) (x : Mentioned) → indexed w.front.seen.externals.items k ≡ Some x → IsAmong (mentions_in (entries w)) (mention_of x)
+kept_external : (w : Whole) → IsWhole w → (k : ℕ) (x : SeenExternal) → indexed w.front.seen.externals.items k ≡ Some x → IsAmong (mentions_in (entries w)) (mention_of x)
 kept_external w is k x here =
     by (indexed (tables w).externals k) refl
     (sym (ap (option_map mention_of) here) ∙ sym (indexed-map mention_of w.front.seen.externals.items k) ∙ ap (λ xs. indexed xs k) is.front_is.seen_is.externals_are ∙ indexed-map external_mention (tables w).externals k)
@@ -59,19 +59,19 @@ kept_external w is k x here =
 external_kept_mentioned : (w : Whole) → IsWhole w → (k : ℕ) → AllMentioned (mentions_in (entries w)) (named_external w k)
 external_kept_mentioned w is k = by (indexed w.front.seen.externals.items k) (kept_external w is k)
   where
-    held : Option Named → Named → Named
+    held : Option Referent → Referent → Referent
     held (Some n) m = n
     held None m = m
 
-    by : (o : Option Mentioned) → ((x : Mentioned) → o ≡ Some x → IsAmong (mentions_in (entries w)) (mention_of x))
-        → (n : Named) → option_map (λ (x : Mentioned). named_symbol w.locals x.local x.name) o ≡ Some n → IsMentioned (mentions_in (entries w)) n
+    by : (o : Option SeenExternal) → ((x : SeenExternal) → o ≡ Some x → IsAmong (mentions_in (entries w)) (mention_of x))
+        → (n : Referent) → option_map (λ (x : SeenExternal). named_symbol w.locals x.local x.name) o ≡ Some n → IsMentioned (mentions_in (entries w)) n
     by None there n e = absurd (none-some n e)
-    by (Some x) there n e = subst (λ (m : Named). IsMentioned (mentions_in (entries w)) m) (ap (λ o. held o n) e) (symbol_mentioned (mentions_in (entries w)) w.locals x.local x.name (there x refl))
+    by (Some x) there n e = subst (λ (m : Referent). IsMentioned (mentions_in (entries w)) m) (ap (λ o. held o n) e) (symbol_mentioned (mentions_in (entries w)) w.locals x.local x.name (there x refl))
 
 section_mentioned : (ms : List Mention) (k : ℕ) → AllMentioned ms (Some (section_at k))
-section_mentioned ms k n e = subst (λ (m : Named). IsMentioned ms m) (ap held e) tt
+section_mentioned ms k n e = subst (λ (m : Referent). IsMentioned ms m) (ap held e) tt
   where
-    held : Option Named → Named
+    held : Option Referent → Referent
     held (Some m) = m
     held None = n
 
@@ -111,12 +111,12 @@ frame_mentioned w is piece x = by (nat_eq x.number 4) piece
     by false piece = named_mentioned w is x
 
 -- the frame is what the target names
-named_by_is : (w : Whole) → IsWhole w → (piece : Option Piece) (frame : Method) (target : Named) (t : Target) → shown (mentions_in (entries w)) target ≡ t.named → IsMentioned (mentions_in (entries w)) target
+named_by_is : (w : Whole) → IsWhole w → (piece : Option Piece) (frame : Method) (target : Referent) (t : Target) → shown (mentions_in (entries w)) target ≡ t.named → IsMentioned (mentions_in (entries w)) target
     → rows.is_named_by w (segment_in piece) frame target ≡ is_named_by (meaning w) piece frame t
 named_by_is w is piece frame target t e here =
     by (rows.named_frame w (segment_in piece) frame) (frame_mentioned w is piece frame) ∙ ap (λ o. option_map_or (same_named t.named) o false) (frame_is w is piece frame)
   where
-    by : (o : Option Named) → AllMentioned (mentions_in (entries w)) o → option_map_or (same target) o false ≡ option_map_or (same_named t.named) (option_map (shown (mentions_in (entries w))) o) false
+    by : (o : Option Referent) → AllMentioned (mentions_in (entries w)) o → option_map_or (same target) o false ≡ option_map_or (same_named t.named) (option_map (shown (mentions_in (entries w))) o) false
     by None there = refl
     by (Some n) there = same_shown (mentions_in (entries w)) target n here (there n refl) ∙ ap (λ (s : Shown). same_named s (shown (mentions_in (entries w)) n)) e
 
@@ -136,7 +136,7 @@ flat_is w is x =
 
 -- ... rows
 
-framed_is : (w : Whole) → IsWhole w → (x : Fixed) (frame : Method) (target : Named) (t : Target) → shown (mentions_in (entries w)) target ≡ t.named → IsMentioned (mentions_in (entries w)) target
+framed_is : (w : Whole) → IsWhole w → (x : Fixed) (frame : Method) (target : Referent) (t : Target) → shown (mentions_in (entries w)) target ≡ t.named → IsMentioned (mentions_in (entries w)) target
     → rows.is_framed w (segment_in x.piece) frame target ≡ is_some (framed_row (meaning w) x t frame)
 framed_is w is x frame target t e here =
     ap (λ b. (b || nat_eq frame.number 5) || rows.is_named_by w (segment_in x.piece) frame target) (flat_is w is frame)
@@ -149,7 +149,7 @@ framed_is w is x frame target t e here =
     by false false true = refl
     by false false false = refl
 
-written_is : (w : Whole) → IsWhole w → (x : Fixed) (target : Named) (t : Target) → shown (mentions_in (entries w)) target ≡ t.named → IsMentioned (mentions_in (entries w)) target
+written_is : (w : Whole) → IsWhole w → (x : Fixed) (target : Referent) (t : Target) → shown (mentions_in (entries w)) target ≡ t.named → IsMentioned (mentions_in (entries w)) target
     → rows.is_written w (segment_in x.piece) x.fixup.segment_relative x.frame target ≡ is_some (row_of (meaning w) x t)
 written_is w is x target t e here = by x.fixup.segment_relative x.frame
   where
@@ -162,7 +162,7 @@ written_is w is x target t e here = by x.fixup.segment_relative x.frame
 pub row_is : (w : Whole) → IsWhole w → (x : Fixed) → rows.has_row w (segment_in x.piece) x.fixup.segment_relative x.target x.frame ≡ faults.has_row (meaning w) x (aim_of (meaning w) x)
 row_is w is x = by x.target
   where
-    both : (o : Option Named) (p : Option Target) → option_map (shown (mentions_in (entries w))) o ≡ option_map (λ (t : Target). t.named) p → AllMentioned (mentions_in (entries w)) o
+    both : (o : Option Referent) (p : Option Target) → option_map (shown (mentions_in (entries w))) o ≡ option_map (λ (t : Target). t.named) p → AllMentioned (mentions_in (entries w)) o
         → option_map_or (rows.is_written w (segment_in x.piece) x.fixup.segment_relative x.frame) o false ≡ option_map_or (λ t. is_some (row_of (meaning w) x t)) p false
     both None None e there = refl
     both None (Some t) e there = absurd (none-some t.named e)

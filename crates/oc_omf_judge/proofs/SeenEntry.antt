@@ -8,7 +8,7 @@ use Rattle.oc_omf.specs.declared.structures.PublicBase.{PublicBase}
 use Rattle.oc_omf.specs.Structures.{Group, base_read, communal_read, external_read, group_read, public_read, segment_read}
 use Rattle.oc_omf.specs.{Entries.{Entry, all_read, in_file, whole}, Tables.{Tables}, Symbols.{external_mention}, SymbolFaults.{base_conditions}}
 use Rattle.oc_omf.specs.Topics.{publics_on, said_on}
-use Rattle.oc_omf_judge.specs.{declared.earlier.EarlierSymbols.{EarlierSymbols}, Defined.{and_entry, part_of}, Held.{Held}, Locals.{AreLocals, AreLocated}}
+use Rattle.oc_omf_judge.specs.{declared.earlier.EarlierSymbols.{EarlierSymbols}, Defined.{and_entry, part_of}, NameNumbers.{NameNumbers}, Locals.{AreLocals, AreLocated}}
 use Rattle.oc_omf_judge.specs.EarlierSymbols.{AreCommunal, AreExternalsStopped, AreExternalsTaken, AreNamed, IsEntrySeen, IsEntryStopped, AreEarlierSymbols, mention_of}
 use Rattle.oc_omf.specs.declared.topics.Topic.TheVariants as topic
 use Rattle.oc_omf_judge.proofs.{GroupLemmas.{group_named, group_with, none_of}, SeenLemmas.{symbols_judged}, StageLaws.{read_in_file, whole_read}}
@@ -32,7 +32,7 @@ base_by t s groups segments x base is g n =
     ∙ ap (λ (k : ℕ). first_broken (base_conditions groups k x base)) (sym (n ∙ ap length is.segments_are))
 
 -- an entry without symbols, by what is kept behind it
-pub silent_seen : (known : Held) (old : EarlierSymbols) (index : ℕ) (e : Entry) (new : EarlierSymbols) → e.bases ≡ [] → e.publics ≡ [] → e.externals ≡ []
+pub silent_seen : (known : NameNumbers) (old : EarlierSymbols) (index : ℕ) (e : Entry) (new : EarlierSymbols) → e.bases ≡ [] → e.publics ≡ [] → e.externals ≡ []
     → ((t : Tables) → AreEarlierSymbols t old → AreEarlierSymbols (record t { segments = t.segments ++ all_read e.segments; groups = t.groups ++ all_read e.groups }) new) → IsEntrySeen known old index e new
 silent_seen known old index e new b p x more all t names is = (
   symbols_judged all t index e ∙ rw (b, p, x) refl,
@@ -48,7 +48,7 @@ same_kept t e s a g is =
 
 -- ... segments and groups
 
-pub segment_seen : (known : Held) (old new : EarlierSymbols) (index place : ℕ) (wide : Bool) (b : List ℕ) (s : Segment) → part_of (segment_read wide b 0) ≡ Some s → new.segments.items ≡ old.segments.items ++ s ∷ []
+pub segment_seen : (known : NameNumbers) (old new : EarlierSymbols) (index place : ℕ) (wide : Bool) (b : List ℕ) (s : Segment) → part_of (segment_read wide b 0) ≡ Some s → new.segments.items ≡ old.segments.items ++ s ∷ []
     → new.groups ≡ old.groups → new.locals ≡ old.locals → new.globals ≡ old.globals → new.communals ≡ old.communals → new.externals ≡ old.externals
     → IsEntrySeen known old index (said_on topic.Segment place wide b) new
 segment_seen known old new index place wide b s read e g l o c x = silent_seen known old index (said_on topic.Segment place wide b) new refl refl refl (λ t is. record {
@@ -61,12 +61,12 @@ segment_seen known old new index place wide b s read e g l o c x = silent_seen k
 })
 
 -- one that is cut
-pub segment_lost : (known : Held) (old : EarlierSymbols) (index place : ℕ) (wide : Bool) (b : List ℕ) (c : Cut) → segment_read wide b 0 ≡ Err c → IsEntrySeen known old index (said_on topic.Segment place wide b) old
+pub segment_lost : (known : NameNumbers) (old : EarlierSymbols) (index place : ℕ) (wide : Bool) (b : List ℕ) (c : Cut) → segment_read wide b 0 ≡ Err c → IsEntrySeen known old index (said_on topic.Segment place wide b) old
 segment_lost known old index place wide b c cut = silent_seen known old index (said_on topic.Segment place wide b) old refl refl refl (λ t is.
     same_seen t (record t { segments = t.segments ++ all_read (whole place (segment_read wide b 0)); groups = t.groups ++ [] }) old is
     (ap (λ (r : Reading Segment). t.segments ++ all_read (whole place r)) cut ∙ append-nil t.segments) (append-nil t.groups) refl refl)
 
-pub group_seen : (known : Held) (old new : EarlierSymbols) (index place : ℕ) (wide : Bool) (b : List ℕ) (name at : ℕ) → index_read b 0 ≡ Ok (name, at) → new.groups.items ≡ old.groups.items ++ name ∷ []
+pub group_seen : (known : NameNumbers) (old new : EarlierSymbols) (index place : ℕ) (wide : Bool) (b : List ℕ) (name at : ℕ) → index_read b 0 ≡ Ok (name, at) → new.groups.items ≡ old.groups.items ++ name ∷ []
     → new.segments ≡ old.segments → new.locals ≡ old.locals → new.globals ≡ old.globals → new.communals ≡ old.communals → new.externals ≡ old.externals
     → IsEntrySeen known old index (said_on topic.Group place wide b) new
 group_seen known old new index place wide b name at read e s l o c x = silent_seen known old index (said_on topic.Group place wide b) new refl refl refl (λ t is. record {
@@ -79,7 +79,7 @@ group_seen known old new index place wide b name at read e s l o c x = silent_se
   externals_are = ap (λ v. map mention_of v.items) x ∙ is.externals_are;
 })
 
-pub group_lost : (known : Held) (old : EarlierSymbols) (index place : ℕ) (wide : Bool) (b : List ℕ) (c : Cut) → index_read b 0 ≡ Err c → IsEntrySeen known old index (said_on topic.Group place wide b) old
+pub group_lost : (known : NameNumbers) (old : EarlierSymbols) (index place : ℕ) (wide : Bool) (b : List ℕ) (c : Cut) → index_read b 0 ≡ Err c → IsEntrySeen known old index (said_on topic.Group place wide b) old
 group_lost known old index place wide b c cut = silent_seen known old index (said_on topic.Group place wide b) old refl refl refl (λ t is.
     same_seen t (record t { segments = t.segments ++ []; groups = t.groups ++ all_read (whole place (group_read b 0)) }) old is
     (append-nil t.segments) (ap (λ xs. t.groups ++ xs) (none_read place (group_read b 0) (group_none b c cut)) ∙ append-nil t.groups) refl refl)
@@ -93,7 +93,7 @@ group_lost known old index place wide b c cut = silent_seen known old index (sai
 
 -- ... externals
 
-pub externals_seen : (known : Held) (old new : EarlierSymbols) (index : ℕ) (local : Bool) (place : ℕ) (wide : Bool) (b : List ℕ)
+pub externals_seen : (known : NameNumbers) (old new : EarlierSymbols) (index : ℕ) (local : Bool) (place : ℕ) (wide : Bool) (b : List ℕ)
     → AreExternalsTaken known old index (in_file place (each_read (external_read local) b 0)) new → IsEntrySeen known old index (said_on (topic.Externals local) place wide b) new
 externals_seen known old new index local place wide b taken all t names is =
     let w = taken all t names is in (
@@ -101,12 +101,12 @@ externals_seen known old new index local place wide b taken all t names is =
       same_seen _ (and_entry t (said_on (topic.Externals local) place wide b)) new w.1 (append-nil t.segments) (append-nil t.groups) (append-nil t.publics) refl,
     )
 
-pub externals_stop : (known : Held) (old : EarlierSymbols) (index : ℕ) (local : Bool) (place : ℕ) (wide : Bool) (b : List ℕ) (s : Stop)
+pub externals_stop : (known : NameNumbers) (old : EarlierSymbols) (index : ℕ) (local : Bool) (place : ℕ) (wide : Bool) (b : List ℕ) (s : Stop)
     → AreExternalsStopped known old index (in_file place (each_read (external_read local) b 0)) s → IsEntryStopped known old index (said_on (topic.Externals local) place wide b) s
 externals_stop known old index local place wide b s stopped all t names is =
     subst (λ o. IsStop o s) (sym (symbols_judged all t index (said_on (topic.Externals local) place wide b))) (stopped all t names is)
 
-pub communals_seen : (known : Held) (old new : EarlierSymbols) (index place : ℕ) (wide : Bool) (b : List ℕ) → AreExternalsTaken known old index (in_file place (each_read communal_read b 0)) new
+pub communals_seen : (known : NameNumbers) (old new : EarlierSymbols) (index place : ℕ) (wide : Bool) (b : List ℕ) → AreExternalsTaken known old index (in_file place (each_read communal_read b 0)) new
     → IsEntrySeen known old index (said_on topic.Communals place wide b) new
 communals_seen known old new index place wide b taken all t names is =
     let w = taken all t names is in (
@@ -114,18 +114,18 @@ communals_seen known old new index place wide b taken all t names is =
       same_seen _ (and_entry t (said_on topic.Communals place wide b)) new w.1 (append-nil t.segments) (append-nil t.groups) (append-nil t.publics) refl,
     )
 
-pub communals_stop : (known : Held) (old : EarlierSymbols) (index place : ℕ) (wide : Bool) (b : List ℕ) (s : Stop) → AreExternalsStopped known old index (in_file place (each_read communal_read b 0)) s
+pub communals_stop : (known : NameNumbers) (old : EarlierSymbols) (index place : ℕ) (wide : Bool) (b : List ℕ) (s : Stop) → AreExternalsStopped known old index (in_file place (each_read communal_read b 0)) s
     → IsEntryStopped known old index (said_on topic.Communals place wide b) s
 communals_stop known old index place wide b s stopped all t names is =
     subst (λ o. IsStop o s) (sym (symbols_judged all t index (said_on topic.Communals place wide b))) (stopped all t names is)
 
 -- an entry that says nothing of symbols, segments and groups
-pub nothing_seen : (known : Held) (old : EarlierSymbols) (index : ℕ) (e : Entry) → e.bases ≡ [] → e.publics ≡ [] → e.externals ≡ [] → e.segments ≡ [] → e.groups ≡ [] → IsEntrySeen known old index e old
+pub nothing_seen : (known : NameNumbers) (old : EarlierSymbols) (index : ℕ) (e : Entry) → e.bases ≡ [] → e.publics ≡ [] → e.externals ≡ [] → e.segments ≡ [] → e.groups ≡ [] → IsEntrySeen known old index e old
 nothing_seen known old index e b p x s g = silent_seen known old index e old b p x (λ t is. same_kept t e old s g is)
 
 -- ... the segments of definitions that this module alone sees
 
-pub located_entry : (old new : Held) (local : Bool) (place : ℕ) (wide : Bool) (b : List ℕ) (base : PublicBase) (at : ℕ) → base_read b 0 ≡ Ok (base, at)
+pub located_entry : (old new : NameNumbers) (local : Bool) (place : ℕ) (wide : Bool) (b : List ℕ) (base : PublicBase) (at : ℕ) → base_read b 0 ≡ Ok (base, at)
     → AreLocated old (all_read (each_read (public_read wide local base.segment) b at)) new → AreLocated old (all_read (said_on (topic.Publics local) place wide b).publics) new
 located_entry old new local place wide b base at e located publics are =
     subst (λ xs. AreLocals (publics ++ xs) new) (sym (ap (λ (r : Reading PublicBase). all_read (publics_on local place wide b r)) e ∙ read_in_file place (each_read (public_read wide local base.segment) b at))) (located publics are)

@@ -3,7 +3,7 @@ use Rattle.std.proofs.Common.{◌≡◌, ℕ, Bool, true, false, cond, ◌&&◌,
 use Rattle.std.specs.{Prelude.{bytes_eq, is_some}, List.{list_any}, Map.{update}, Option.{option_map_or}}
 use Rattle.std.proofs.lemmas.{Bool.Decides.{nat_tests}, List.{map-append}, List.Folds.{list_any-append}, Slice.Eq.{bytes_eq-Decides}}
 use Rattle.std.proofs.Math.Bool.{or-false}
-use Rattle.oc_omf_judge.specs.{declared.earlier.External.{External as Mentioned}, declared.earlier.EarlierSymbols.{EarlierSymbols}, Held.{Held, value_at}}
+use Rattle.oc_omf_judge.specs.{declared.earlier.SeenExternal.{SeenExternal}, declared.earlier.EarlierSymbols.{EarlierSymbols}, NameNumbers.{NameNumbers, value_at}}
 use Rattle.oc_omf_judge.specs.EarlierSymbols.{AreCommunal, AreNamed, AreEarlierSymbols, external_behind, external_with, mention_of, public_behind}
 use Rattle.oc_omf.specs.{declared.structures.Communal.{Communal}, Structures.{Public, External}, Tables.{Tables}}
 use Rattle.oc_omf.specs.Symbols.{agree, external_mention, public_mention, same_symbol}
@@ -35,7 +35,7 @@ agree_other true = refl
 agree_other false = refl
 
 -- a name more among those of its kind
-pub named_more : (local : Bool) (publics : List Public) (old new : Held) (p : Public) (number : ℕ) → AreNamed local publics old → p.local ≡ local
+pub named_more : (local : Bool) (publics : List Public) (old new : NameNumbers) (p : Public) (number : ℕ) → AreNamed local publics old → p.local ≡ local
     → ((other : List ℕ) → value_at new other ≡ update bytes_eq (value_at old) p.name (Some number) other) → AreNamed local (publics ++ p ∷ []) new
 named_more local publics old new p number are same taken name =
     ap is_some (taken name)
@@ -50,7 +50,7 @@ named_more local publics old new p number are same taken name =
     by false o false e = e
 
 -- one of the other kind
-pub named_other : (local : Bool) (publics : List Public) (held : Held) (p : Public) → AreNamed local publics held → p.local ≡ not local → AreNamed local (publics ++ p ∷ []) held
+pub named_other : (local : Bool) (publics : List Public) (held : NameNumbers) (p : Public) → AreNamed local publics held → p.local ≡ not local → AreNamed local (publics ++ p ∷ []) held
 named_other local publics held p are other name =
     are name ∙ sym (one_more local publics p name ∙ ap (λ b. list_any (λ q. same_symbol (record { local = local; name = name }) (public_mention q)) publics || (b && bytes_eq name p.name)) (ap (agree local) other ∙ agree_other local)
     ∙ or-false (list_any (λ q. same_symbol (record { local = local; name = name }) (public_mention q)) publics))
@@ -83,7 +83,7 @@ global_seen t old new p number is local taken s g o c e = record {
 }
 
 -- a definition stood before where its name is held
-pub stood_before : (t : Tables) (local : Bool) (held : Held) (p : Public) → AreNamed local t.publics held → p.local ≡ local → is_some (value_at held p.name) ≡ list_any (same_public p) t.publics
+pub stood_before : (t : Tables) (local : Bool) (held : NameNumbers) (p : Public) → AreNamed local t.publics held → p.local ≡ local → is_some (value_at held p.name) ≡ list_any (same_public p) t.publics
 stood_before t local held p are same = are p.name ∙ ap (λ l. list_any (λ q. same_symbol (record { local = l; name = p.name }) (public_mention q)) t.publics) (sym same)
 
 -- a definition that meets its conditions
@@ -99,7 +99,7 @@ pub clean_external : (all : Tables) (before : List External) (at : ℕ × ℕ) (
 clean_external all before at y none found named = rw (none, found, named) refl
 
 -- of this module alone, but not defined in it
-pub undefined_is : (all : Tables) (known : Held) (y : External) → AreNamed true all.publics known → is_undefined all y ≡ (y.local && not (is_some (value_at known y.name)))
+pub undefined_is : (all : Tables) (known : NameNumbers) (y : External) → AreNamed true all.publics known → is_undefined all y ≡ (y.local && not (is_some (value_at known y.name)))
 undefined_is all known y names = by y.local refl
   where
     by : (b : Bool) → y.local ≡ b → (y.local && not (list_any (λ p. same_symbol (external_mention y) (public_mention p)) all.publics)) ≡ (y.local && not (is_some (value_at known y.name)))
@@ -107,7 +107,7 @@ undefined_is all known y names = by y.local refl
     by false e = rw e refl
 
 -- an external more
-pub external_seen : (t : Tables) (old new : EarlierSymbols) (x : Mentioned) (y : External) → AreEarlierSymbols t old → mention_of x ≡ external_mention y → y.communal ≡ None → new.externals.items ≡ old.externals.items ++ x ∷ []
+pub external_seen : (t : Tables) (old new : EarlierSymbols) (x : SeenExternal) (y : External) → AreEarlierSymbols t old → mention_of x ≡ external_mention y → y.communal ≡ None → new.externals.items ≡ old.externals.items ++ x ∷ []
     → new.segments ≡ old.segments → new.groups ≡ old.groups → new.locals ≡ old.locals → new.globals ≡ old.globals → new.communals ≡ old.communals
     → AreEarlierSymbols (record t { externals = t.externals ++ y ∷ [] }) new
 external_seen t old new x y is same none e s g l o c = record {
@@ -130,7 +130,7 @@ external_seen t old new x y is same none e s g l o c = record {
     nothing false false = refl
 
 -- a communal more, whose length is held
-pub communal_seen : (t : Tables) (old new : EarlierSymbols) (x : Mentioned) (y : External) (d : Communal) → AreEarlierSymbols t old → mention_of x ≡ external_mention y → y.communal ≡ Some d
+pub communal_seen : (t : Tables) (old new : EarlierSymbols) (x : SeenExternal) (y : External) (d : Communal) → AreEarlierSymbols t old → mention_of x ≡ external_mention y → y.communal ≡ Some d
     → option_map_or (λ l. not (nat_eq d.length l)) (value_at old.communals y.name) false ≡ false
     → ((other : List ℕ) → value_at new.communals other ≡ update bytes_eq (value_at old.communals) y.name (Some d.length) other) → new.externals.items ≡ old.externals.items ++ x ∷ []
     → new.segments ≡ old.segments → new.groups ≡ old.groups → new.locals ≡ old.locals → new.globals ≡ old.globals → AreEarlierSymbols (record t { externals = t.externals ++ y ∷ [] }) new

@@ -4,8 +4,8 @@ use Rattle.std.specs.Option.{option_map_or}
 use Rattle.oc_base.specs.{declared.code.Code.TheVariants.{SymbolPastEnd, SymbolKind, DuplicateName, BadSymbol}, declared.fault.Fault.{Fault}}
 use Rattle.oc_base.specs.{declared.stop.Stop.{Stop}, Stops.{IsStop}}
 use Rattle.oc_linking.specs.{Numbers.{or_else}, FirstFault.{Condition, first_broken, stage_fault}}
-use Rattle.oc_omf_judge.specs.{declared.earlier.External.{External as Mentioned}, declared.earlier.EarlierSymbols.{EarlierSymbols}}
-use Rattle.oc_omf_judge.specs.{declared.section_stage.EntryPlace.{EntryPlace}, Defined.{and_entry}, Held.{Held, value_at}}
+use Rattle.oc_omf_judge.specs.{declared.earlier.SeenExternal.{SeenExternal}, declared.earlier.EarlierSymbols.{EarlierSymbols}}
+use Rattle.oc_omf_judge.specs.{declared.section_stage.EntryPlace.{EntryPlace}, Defined.{and_entry}, NameNumbers.{NameNumbers, value_at}}
 use Rattle.oc_omf.specs.{declared.structures.Communal.{Communal}, declared.topics.Topic.{Topic}, Cursor.{Read, each_read}}
 use Rattle.oc_omf.specs.{Structures.{Group, Public, External, communal_read, external_read, public_read}, Entries.{Entry, all_read, in_file}, Tables.{Tables}}
 use Rattle.oc_omf.specs.{Sections.{size_at}, Symbols.{Mention, external_mention, public_mention, same_symbol}}
@@ -14,15 +14,15 @@ use Rattle.oc_omf.specs.Topics.{said_on}
 use Rattle.oc_omf.specs.declared.symbols.Public as read
 
 -- the names that are held are those of definitions, of this module alone or not
-abbrev pub AreNamed : Bool → List Public → Held → Type 0
+abbrev pub AreNamed : Bool → List Public → NameNumbers → Type 0
 AreNamed local publics held = (name : List ℕ) → is_some (value_at held name) ≡ list_any (λ p. same_symbol (record { local = local; name = name }) (public_mention p)) publics
 
 -- communals of a name that is held have the length that is held with it
-abbrev pub AreCommunal : List External → Held → Type 0
+abbrev pub AreCommunal : List External → NameNumbers → Type 0
 AreCommunal externals held = (name : List ℕ) (c : Communal) → list_any (is_other_length name c) externals ≡ option_map_or (λ l. not (nat_eq c.length l)) (value_at held name) false
 
 -- what an external mentions
-abbrev pub mention_of : Mentioned → Mention
+abbrev pub mention_of : SeenExternal → Mention
 mention_of x = record { local = x.local; name = x.name.now }
 
 -- what is kept is what came before
@@ -86,20 +86,20 @@ abbrev pub external_with : Bool → List ℕ → Option Communal → External
 external_with local name communal = record { local = local; name = name; communal = communal }
 
 -- the same of an external
-abbrev pub IsExternalTaken : Held → EarlierSymbols → ℕ × ℕ → External → EarlierSymbols → Type 0
+abbrev pub IsExternalTaken : NameNumbers → EarlierSymbols → ℕ × ℕ → External → EarlierSymbols → Type 0
 IsExternalTaken known old at y new =
     (all t : Tables) → AreNamed true all.publics known → AreEarlierSymbols t old
     → (first_broken (external_behind all t.externals at y) ≡ None) × AreEarlierSymbols (record t { externals = t.externals ++ y ∷ [] }) new
 
-abbrev pub IsExternalStopped : Held → EarlierSymbols → ℕ × ℕ → External → Stop → Type 0
+abbrev pub IsExternalStopped : NameNumbers → EarlierSymbols → ℕ × ℕ → External → Stop → Type 0
 IsExternalStopped known old at y s = (all t : Tables) → AreNamed true all.publics known → AreEarlierSymbols t old → IsStop (first_broken (external_behind all t.externals at y)) s
 
 -- the same of a communal, whatever names this module alone sees
 abbrev pub IsCommunalTaken : EarlierSymbols → ℕ × ℕ → List ℕ → Communal → EarlierSymbols → Type 0
-IsCommunalTaken old at name c new = (known : Held) → IsExternalTaken known old at (external_with false name (Some c)) new
+IsCommunalTaken old at name c new = (known : NameNumbers) → IsExternalTaken known old at (external_with false name (Some c)) new
 
 abbrev pub IsCommunalStopped : EarlierSymbols → ℕ × ℕ → List ℕ → Communal → Stop → Type 0
-IsCommunalStopped old at name c s = (known : Held) → IsExternalStopped known old at (external_with false name (Some c)) s
+IsCommunalStopped old at name c s = (known : NameNumbers) → IsExternalStopped known old at (external_with false name (Some c)) s
 
 -- definitions after what is kept have no fault, and are recorded
 abbrev pub ArePublicsTaken : EarlierSymbols → ℕ → List (Read Public) → EarlierSymbols → Type 0
@@ -111,12 +111,12 @@ abbrev pub ArePublicsStopped : EarlierSymbols → ℕ → List (Read Public) →
 ArePublicsStopped old index reads s = (t : Tables) → AreEarlierSymbols t old → IsStop (walked (public_behind t) index t.publics reads) s
 
 -- the same of externals, where the names of all definitions of this module alone are held
-abbrev pub AreExternalsTaken : Held → EarlierSymbols → ℕ → List (Read External) → EarlierSymbols → Type 0
+abbrev pub AreExternalsTaken : NameNumbers → EarlierSymbols → ℕ → List (Read External) → EarlierSymbols → Type 0
 AreExternalsTaken known old index reads new =
     (all t : Tables) → AreNamed true all.publics known → AreEarlierSymbols t old
     → (walked (external_behind all) index t.externals reads ≡ None) × AreEarlierSymbols (record t { externals = t.externals ++ all_read reads }) new
 
-abbrev pub AreExternalsStopped : Held → EarlierSymbols → ℕ → List (Read External) → Stop → Type 0
+abbrev pub AreExternalsStopped : NameNumbers → EarlierSymbols → ℕ → List (Read External) → Stop → Type 0
 AreExternalsStopped known old index reads s = (all t : Tables) → AreNamed true all.publics known → AreEarlierSymbols t old → IsStop (walked (external_behind all) index t.externals reads) s
 
 -- the definitions of a segment from there on in the contents of the entry at a place of the file
@@ -131,27 +131,27 @@ abbrev pub communals_at : ℕ → List ℕ → List (Read External)
 communals_at place contents = in_file place (each_read communal_read contents 0)
 
 -- an entry has no fault, and is recorded
-abbrev pub IsEntrySeen : Held → EarlierSymbols → ℕ → Entry → EarlierSymbols → Type 0
+abbrev pub IsEntrySeen : NameNumbers → EarlierSymbols → ℕ → Entry → EarlierSymbols → Type 0
 IsEntrySeen known old index e new =
     (all t : Tables) → AreNamed true all.publics known → AreEarlierSymbols t old
     → (stage_fault (symbol_stage (record { index = index; before = t; all = all; entry = e })) ≡ None) × AreEarlierSymbols (and_entry t e) new
 
-abbrev pub IsEntryStopped : Held → EarlierSymbols → ℕ → Entry → Stop → Type 0
+abbrev pub IsEntryStopped : NameNumbers → EarlierSymbols → ℕ → Entry → Stop → Type 0
 IsEntryStopped known old index e s =
     (all t : Tables) → AreNamed true all.publics known → AreEarlierSymbols t old → IsStop (stage_fault (symbol_stage (record { index = index; before = t; all = all; entry = e }))) s
 
 -- the entry there, on that topic and with these contents, has no fault, and is recorded
-abbrev pub IsSeenThere : Held → EarlierSymbols → EntryPlace → Topic → Bool → List ℕ → EarlierSymbols → Type 0
+abbrev pub IsSeenThere : NameNumbers → EarlierSymbols → EntryPlace → Topic → Bool → List ℕ → EarlierSymbols → Type 0
 IsSeenThere known old spot topic wide contents new = IsEntrySeen known old spot.index (said_on topic spot.place wide contents) new
 
 -- it has a fault, which is reported
-abbrev pub IsStoppedThere : Held → EarlierSymbols → EntryPlace → Topic → Bool → List ℕ → Stop → Type 0
+abbrev pub IsStoppedThere : NameNumbers → EarlierSymbols → EntryPlace → Topic → Bool → List ℕ → Stop → Type 0
 IsStoppedThere known old spot topic wide contents s = IsEntryStopped known old spot.index (said_on topic spot.place wide contents) s
 
 -- an entry on that topic, with these contents, has no fault, and is recorded, wherever it is and whatever names are known
 abbrev pub IsSeenAnywhere : EarlierSymbols → Topic → Bool → List ℕ → EarlierSymbols → Type 0
-IsSeenAnywhere old topic wide contents new = (known : Held) (index place : ℕ) → IsEntrySeen known old index (said_on topic place wide contents) new
+IsSeenAnywhere old topic wide contents new = (known : NameNumbers) (index place : ℕ) → IsEntrySeen known old index (said_on topic place wide contents) new
 
 -- it has a fault, which is reported
 abbrev pub IsStoppedAnywhere : EarlierSymbols → Topic → Bool → List ℕ → Stop → Type 0
-IsStoppedAnywhere old topic wide contents s = (known : Held) (index place : ℕ) → IsEntryStopped known old index (said_on topic place wide contents) s
+IsStoppedAnywhere old topic wide contents s = (known : NameNumbers) (index place : ℕ) → IsEntryStopped known old index (said_on topic place wide contents) s

@@ -2,12 +2,12 @@ pub mod Counts
 pub mod Defined
 pub mod EarlierSymbols
 pub mod Fixups
-pub mod Held
 pub mod Judged
 pub mod LastData
 pub mod Locals
 pub mod Lying
 pub mod Members
+pub mod NameNumbers
 pub mod Named
 pub mod Reached
 pub mod Rows

@@ -11,7 +11,7 @@ use std::collections::BTreeMap;
 
 /// A symbol that is defined elsewhere, or a communal.
 #[derive(Drop)]
-pub struct External<'a> {
+pub struct SeenExternal<'a> {
     /// Whether it is of this module alone.
     pub local: bool,
     /// Its name.
@@ -32,7 +32,7 @@ pub struct EarlierSymbols<'a> {
     /// The names of communals, each with its length.
     pub communals: BTreeMap<&'a [u8], u32>,
     /// The externals and communals.
-    pub externals: Vec<External<'a>>,
+    pub externals: Vec<SeenExternal<'a>>,
 }
 
 impl<'a> EarlierSymbols<'a> {

@@ -2,10 +2,10 @@
 ghost use Rattle.std.specs.Prelude.{◌≡◌, ◌+◌, ◌≤◌, ◌&&◌, length, false, is_some, not, nat_eq, None, OnOk, IfErr};
 ghost use Rattle.std.specs.Option.{option_map_or};
 ghost use Rattle.oc_base.specs.declared.limits.TheConstants.{MOST_INPUT};
-ghost use Rattle.oc_omf_judge.specs.Held.{Held, value_at};
+ghost use Rattle.oc_omf_judge.specs.NameNumbers.{NameNumbers, value_at};
 ghost use Rattle.oc_omf_judge.specs.EarlierSymbols as specs;
 
-use crate::earlier::{EarlierSymbols, External};
+use crate::earlier::{EarlierSymbols, SeenExternal};
 use crate::held::{take_up, value_of};
 use crate::publics::{cut_fault, spot_in};
 use crate::section_stage::EntryPlace;
@@ -39,7 +39,7 @@ fn take_external<'a>(
     if name.is_empty() {
         return Err(Stop::Refused(symbol_fault(here, Code::SymbolKind)));
     }
-    seen.externals.push(External { local, name })?;
+    seen.externals.push(SeenExternal { local, name })?;
     Ok(())
 }
 
@@ -94,7 +94,7 @@ fn take_communal<'a>(
     if is_other(before, communal.length) {
         return Err(Stop::Refused(symbol_fault(here, Code::DuplicateName)));
     }
-    seen.externals.push(External { local: false, name })?;
+    seen.externals.push(SeenExternal { local: false, name })?;
     Ok(())
 }
 
@@ -118,8 +118,8 @@ pub(crate) fn take_communals<'a>(
     contents: &View<'a>,
 ) -> Result<(), Stop>
     requires { spot.place + length contents.now ≤ MOST_INPUT }
-    ensures taken { OnOk result ((known : Held) → specs.AreExternalsTaken known seen.old spot.index (specs.communals_at spot.place contents.now) seen.new) }
-    ensures stop { IfErr result (λ s. (known : Held) → specs.AreExternalsStopped known seen.old spot.index (specs.communals_at spot.place contents.now) s) }
+    ensures taken { OnOk result ((known : NameNumbers) → specs.AreExternalsTaken known seen.old spot.index (specs.communals_at spot.place contents.now) seen.new) }
+    ensures stop { IfErr result (λ s. (known : NameNumbers) → specs.AreExternalsStopped known seen.old spot.index (specs.communals_at spot.place contents.now) s) }
 {
     let mut at = 0;
     while at < contents.len() {

@@ -1,7 +1,7 @@
 //! Names that came before, each with a number.
 ghost use Rattle.std.specs.Prelude.{◌≡◌, ℕ, List, bytes_eq, Some, IfOk, OnOk};
 ghost use Rattle.std.specs.Map.{update};
-ghost use Rattle.oc_omf_judge.specs.Held.{value_at};
+ghost use Rattle.oc_omf_judge.specs.NameNumbers.{value_at};
 
 use oc_base::NoMemory;
 use std::collections::BTreeMap;

@@ -28,7 +28,8 @@ pub struct Found<'a> {
 
 /// The module in a file of at most 67,108,864 bytes, with what its entries define, where it is a well formed object module of 32-bit
 /// segments when it is read under `keep` (TIS OMF 1.1; our profile): an error exactly where it is not,
-/// with its first fault; `NoMemory` where memory ran out.
+/// with its first fault; `NoMemory` where memory ran out, or where there are more than 9,586,980 relocated
+/// fields (`oc_weight`).
 ///
 /// The faults come in this order, and of one phase in the order of the file: those of entries, of
 /// names, segments, groups and data, of symbols, of threads and fixups. The time is that of n log2(n)

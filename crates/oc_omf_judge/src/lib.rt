@@ -29,7 +29,7 @@ mod threads;
 mod whole;
 
 pub use defined::{Defined, name_at};
-pub use earlier::{EarlierSymbols, External};
+pub use earlier::{EarlierSymbols, SeenExternal};
 pub use front::{Front, judge_front};
 pub use judging::{Found, judged};
 pub use section_stage::segment_size;

@@ -1,7 +1,7 @@
 //! Symbols at offsets of segments.
 ghost use Rattle.std.specs.Prelude.{◌≡◌, ◌+◌, ◌≤◌, length, OnOk, IfErr};
 ghost use Rattle.oc_base.specs.declared.limits.TheConstants.{MOST_INPUT};
-ghost use Rattle.oc_omf_judge.specs.Held.{Held};
+ghost use Rattle.oc_omf_judge.specs.NameNumbers.{NameNumbers};
 ghost use Rattle.oc_omf_judge.specs.EarlierSymbols as specs;
 ghost use Rattle.oc_omf.specs.SymbolFaults as rules;
 ghost use Rattle.oc_omf.specs.Sections.{size_at};
@@ -108,8 +108,8 @@ pub(crate) fn take_public_entry<'a>(
     contents: &View<'a>,
 ) -> Result<(), Stop>
     requires { spot.place + length contents.now ≤ MOST_INPUT }
-    ensures taken { OnOk result ((known : Held) → specs.IsSeenThere known seen.old spot (topic.Publics local) wide contents.now seen.new) }
-    ensures stop { IfErr result (λ s. (known : Held) → specs.IsStoppedThere known seen.old spot (topic.Publics local) wide contents.now s) }
+    ensures taken { OnOk result ((known : NameNumbers) → specs.IsSeenThere known seen.old spot (topic.Publics local) wide contents.now seen.new) }
+    ensures stop { IfErr result (λ s. (known : NameNumbers) → specs.IsStoppedThere known seen.old spot (topic.Publics local) wide contents.now s) }
 {
     let (base, at) = match read_base(contents) {
         Ok(read) => read,

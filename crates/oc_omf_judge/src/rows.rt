@@ -2,12 +2,12 @@
 ghost use Rattle.std.specs.Prelude.{◌≡◌};
 ghost use Rattle.oc_omf_judge.specs.Rows as specs;
 
-use crate::named::{Named, named_of, same, section_at};
+use crate::named::{Referent, named_of, same, section_at};
 use crate::whole::{Whole, is_flat};
 use oc_omf::Method;
 
 // what a frame names, of a fixup in data of a segment: that segment, or what its method names
-fn named_frame<'a>(whole: &Whole<'a>, segment: Option<u16>, frame: Method) -> Option<Named<'a>>
+fn named_frame<'a>(whole: &Whole<'a>, segment: Option<u16>, frame: Method) -> Option<Referent<'a>>
     ensures { result ≡ specs.named_frame whole.now segment frame }
 {
     if frame.number != 4 {
@@ -20,7 +20,7 @@ fn named_frame<'a>(whole: &Whole<'a>, segment: Option<u16>, frame: Method) -> Op
 }
 
 // whether a frame names what the target does
-fn is_named_by(whole: &Whole<'_>, segment: Option<u16>, frame: Method, target: Named<'_>) -> bool
+fn is_named_by(whole: &Whole<'_>, segment: Option<u16>, frame: Method, target: Referent<'_>) -> bool
     ensures { result ≡ specs.is_named_by whole.now segment frame target.entry }
 {
     match named_frame(whole, segment, frame) {
@@ -30,7 +30,7 @@ fn is_named_by(whole: &Whole<'_>, segment: Option<u16>, frame: Method, target: N
 }
 
 // whether a segment-relative fixup has a row by its frame
-fn is_framed(whole: &Whole<'_>, segment: Option<u16>, frame: Method, target: Named<'_>) -> bool
+fn is_framed(whole: &Whole<'_>, segment: Option<u16>, frame: Method, target: Referent<'_>) -> bool
     ensures { result ≡ specs.is_framed whole.now segment frame target.entry }
 {
     if is_flat(whole, frame) || frame.number == 5 {
@@ -44,7 +44,7 @@ fn is_framed_by(
     whole: &Whole<'_>,
     segment: Option<u16>,
     frame: Option<Method>,
-    target: Named<'_>,
+    target: Referent<'_>,
 ) -> bool
     ensures { result ≡ specs.is_framed_by whole.now segment frame target.entry }
 {
@@ -60,7 +60,7 @@ fn is_written(
     segment: Option<u16>,
     segment_relative: bool,
     frame: Option<Method>,
-    target: Named<'_>,
+    target: Referent<'_>,
 ) -> bool
     ensures { result ≡ specs.is_written whole.now segment segment_relative frame target.entry }
 {
@@ -71,7 +71,7 @@ fn is_written(
 }
 
 // what a target names, if there is one
-fn named_target<'a>(whole: &Whole<'a>, target: Option<Method>) -> Option<Named<'a>>
+fn named_target<'a>(whole: &Whole<'a>, target: Option<Method>) -> Option<Referent<'a>>
     ensures { result ≡ specs.named_target whole.now target }
 {
     match target {

@@ -26,7 +26,7 @@ use Rattle.oc_omf.specs.Tables as all
 use Rattle.oc_omf_read.specs.{declared.fields.FixupField.{FixupField}, declared.fix.Fix.{Fix}, declared.fix.FixupFrame.{FixupFrame}, Aims.{fix_by, framed_of}}
 use Rattle.oc_omf_read.specs.{Built.{started}, Fields.{fields_of, given_with, is_among}, Given.{against, given_at}}
 use Rattle.oc_omf_read.proofs.{BuildLemmas.{as_many_sections, section_at}, FixLemmas.{reloc_as}, GivenFields.{number_stands}}
-use Rattle.oc_omf_read.proofs.ListedFields.{IsListed, IsStanding, among_same, field_given, fix_made, given_standing, listed_at, not_among, standing_among}
+use Rattle.oc_omf_read.proofs.ListedFields.{IsFromFixup, IsStanding, among_same, field_given, fix_made, given_standing, listed_at, not_among, standing_among}
 use Rattle.oc_omf_read.proofs.PlacedFixups.{IsAt, at_inside, good, sound}
 use Rattle.oc_omf_read.proofs.StandingFields.{are_apart, are_of_file, differences_fit, standing_less, standing_target, standing_width}
 use Rattle.oc_omf_read.proofs.{StartLemmas.{symbol_number, zero_uncovered}, WholeSymbols.{symbol_whole}}
@@ -230,7 +230,7 @@ module _ (file : List ℕ) (bytes : AreBytes file) (keep : Keep) (sections : sta
       abbrev pub here : FixupField
       here = get_or fields j e
 
-      listed : IsListed file keep sections relocs 0 here
+      listed : IsFromFixup file keep sections relocs 0 here
       listed = listed_at file keep sections relocs fields are j e below
 
       pub field_inside : IsInside here.section here.at

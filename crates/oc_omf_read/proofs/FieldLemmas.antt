@@ -18,7 +18,7 @@ use Rattle.oc_omf_judge.specs.Threads.{method_by}
 use Rattle.oc_omf_judge.proofs.{ReachedLemmas.{method_is}, StateLaws.{force_stays, force_thread, tables_more}, SubrecordLemmas.{subrecord_goes}}
 use Rattle.oc_omf_judge.proofs.EntryLemmas.{last_push}
 use Rattle.oc_omf_read.specs.{declared.class.EntryClass.{EntryClass}, declared.fields.Behind.{Behind}, declared.fields.FixupField.{FixupField}}
-use Rattle.oc_omf_read.specs.{declared.fixes.FixupContext.{FixupContext}, declared.pieces.Piece.{Piece}, Aims.{meaning_seen}, Classes.{class_of}}
+use Rattle.oc_omf_read.specs.{declared.fixes.FixupContext.{FixupContext}, declared.pieces.FoundPiece.{FoundPiece}, Aims.{meaning_seen}, Classes.{class_of}}
 use Rattle.oc_omf_read.specs.{Defined.{said}, Fields.{AreLow, HasData, HasFields, IsLast, fields_behind, fields_by, fields_for, fields_of, held}}
 use Rattle.oc_omf_read.specs.Pieces.{ArePieces, IsPiece, row_in}
 use Rattle.oc_omf_read.specs.declared.class.EntryClass.TheVariants as class
@@ -31,8 +31,8 @@ module _ (m : Meaning) (keep : Keep) where
   pub fields_same : (earlier : List PlacedSubrecord) (before : all.Tables) (b : Behind) (f : Fixup) → AreInForce earlier b.threads → IsLast (held b) (last_of before.pieces) → fields_behind m keep b f ≡ fields_for m keep (fixed_of earlier before f)
   fields_same earlier before b f are last = by (held b) (last_of before.pieces) last
     where
-      by : (p : Option Piece) (o : Option structures.Piece) → IsLast p o
-          → option_map_or (λ (p : Piece). fields_by m keep p.segment p.offset (row_in p.data) f (method_by b.threads true f.frame) (method_by b.threads false f.target)) p []
+      by : (p : Option FoundPiece) (o : Option structures.Piece) → IsLast p o
+          → option_map_or (λ (p : FoundPiece). fields_by m keep p.segment p.offset (row_in p.data) f (method_by b.threads true f.frame) (method_by b.threads false f.target)) p []
           ≡ option_map_or (λ (d : structures.Piece). fields_by m keep d.segment d.offset (blocks_in d.blocks) f (method_of earlier true f.frame) (method_of earlier false f.target)) o []
       by None o is = ap (λ o. option_map_or (λ (d : structures.Piece). fields_by m keep d.segment d.offset (blocks_in d.blocks) f (method_of earlier true f.frame) (method_of earlier false f.target)) o []) (sym is)
       by (Some p) o is =
@@ -122,7 +122,7 @@ module _ (s : FixupContext) (i : ℕ) (r : Record) where
           made = w.made ∙ ap (fields_of (meaning_seen s) s.keep) (sym (without_fixup (earlier ++ w.done) (part at x) refl)) ∙ ap (λ (xs : List PlacedSubrecord). fields_of (meaning_seen s) s.keep (fixed_in xs)) (sym here);
           threads = subst (λ (xs : List PlacedSubrecord). AreInForce xs new.threads) (sym here) (force_thread (earlier ++ w.done) (part at x) t now.threads new.threads refl w.threads taken);
           piece = piece ∙ w.piece;
-          last = subst (λ (p : Option Piece). IsLast p (last_of (tables_of (take i es)).pieces)) (sym piece) w.last;
+          last = subst (λ (p : Option FoundPiece). IsLast p (last_of (tables_of (take i es)).pieces)) (sym piece) w.last;
           low = subst AreLow (sym piece) w.low;
         }
 
@@ -138,7 +138,7 @@ module _ (s : FixupContext) (i : ℕ) (r : Record) where
               ∙ ap (λ (xs : List PlacedSubrecord). fields_of (meaning_seen s) s.keep (fixed_in xs)) (sym here);
           threads = subst (λ (ts : Threads). AreInForce (earlier ++ (w.done ++ part at x ∷ [])) ts) (sym threads) (subst (λ (xs : List PlacedSubrecord). AreInForce xs now.threads) (sym here) (force_stays (earlier ++ w.done) (part at x) now.threads (λ frame number. refl) w.threads));
           piece = piece ∙ w.piece;
-          last = subst (λ (p : Option Piece). IsLast p (last_of (tables_of (take i es)).pieces)) (sym piece) w.last;
+          last = subst (λ (p : Option FoundPiece). IsLast p (last_of (tables_of (take i es)).pieces)) (sym piece) w.last;
           low = subst AreLow (sym piece) w.low;
         }
 
@@ -213,7 +213,7 @@ module _ (s : FixupContext) (i : ℕ) (r : Record) (clean : stage_fault (section
   more_pieces : (tables_of (take (i + 1) (entries_in s.omf.now))).pieces ≡ (tables_of (take i (entries_in s.omf.now))).pieces ++ all_read (said r).pieces
   more_pieces = ap (λ (t : all.Tables). t.pieces) (tables_more (entries_in s.omf.now) i (said r) here)
 
-  piece_low : (p : Piece) (d : structures.Piece) → all_read (said r).pieces ≡ d ∷ [] → IsPiece p d → AreLow (Some p)
+  piece_low : (p : FoundPiece) (d : structures.Piece) → all_read (said r).pieces ≡ d ∷ [] → IsPiece p d → AreLow (Some p)
   piece_low p d one is =
       let m = (subst (AllByRecursion (IsPlacedPiece (tables_of (entries_in s.omf.now)))) one (pieces_placed s.omf.now clean i (said r) here)).0 in
       let inside = m.inside in
@@ -234,11 +234,11 @@ module _ (s : FixupContext) (i : ℕ) (r : Record) (clean : stage_fault (section
       record {
         made = has.made ∙ ap (λ (xs : List PlacedSubrecord). fields_of (meaning_seen s) s.keep (fixed_in xs)) upto;
         threads = subst (λ (xs : List PlacedSubrecord). AreInForce xs new.threads) upto (subst (λ (ts : Threads). AreInForce (subrecords_upto es i) ts) (sym data_.threads) has.threads);
-        last = subst (λ (p : Option Piece). IsLast p (last_of (tables_of (take (i + 1) es)).pieces)) (sym data_.piece) both.0;
+        last = subst (λ (p : Option FoundPiece). IsLast p (last_of (tables_of (take (i + 1) es)).pieces)) (sym data_.piece) both.0;
         low = subst AreLow (sym data_.piece) both.1;
       }
     where
-      by : (found : Option Piece) → ArePieces found (all_read (said r).pieces)
+      by : (found : Option FoundPiece) → ArePieces found (all_read (said r).pieces)
           → IsLast (or_else found (held old)) (last_of (tables_of (take (i + 1) (entries_in s.omf.now))).pieces) × AreLow (or_else found (held old))
       by None are = (
         subst (λ (ds : List structures.Piece). IsLast (held old) (last_of ds))

@@ -166,7 +166,7 @@ module _ (file : List ℕ) (keep : Keep) (sections : stage_fault (section_stage 
       by (Some d) behind there = by_fix d behind (fix_for m keep d.segment f.fixup f.frame f.target) refl there
 
   -- a field of some fixup from a number on
-  pub record IsListed (k : ℕ) (e : FixupField) : Type 0 where
+  pub record IsFromFixup (k : ℕ) (e : FixupField) : Type 0 where
     pub p : ℕ
     pub from : k ≤ p
     pub is : IsFieldOf p e
@@ -188,13 +188,13 @@ module _ (file : List ℕ) (keep : Keep) (sections : stage_fault (section_stage 
   from_rest : (k : ℕ) (x : Fixed) (xs : List Fixed) → AreFrom k (x ∷ xs) → AreFrom (k + 1) xs
   from_rest k x xs from j y here = let same : k + 1 + j ≡ k + suc j = omega arith in ap (slice_get fs) same ∙ from (suc j) y here
 
-  listed_from : (k : ℕ) (xs : List Fixed) → AreFrom k xs → AllByRecursion (IsListed k) (flat_map (fields_for m keep) xs)
+  listed_from : (k : ℕ) (xs : List Fixed) → AreFrom k xs → AllByRecursion (IsFromFixup k) (flat_map (fields_for m keep) xs)
   listed_from k [] from = tt
   listed_from k (x ∷ xs) from =
-      all_join (IsListed k) (fields_for m keep x) (flat_map (fields_for m keep) xs) (weaker (IsFieldOf k) (IsListed k) (fields_for m keep x) (λ e is. record { p = k; from = omega arith; is = is }) (own_listed k x (from_first k x xs from)))
-      (weaker (IsListed (k + 1)) (IsListed k) (flat_map (fields_for m keep) xs) (λ e l. let low = l.from in record { p = l.p; from = omega (arith, low); is = l.is }) (listed_from (k + 1) xs (from_rest k x xs from)))
+      all_join (IsFromFixup k) (fields_for m keep x) (flat_map (fields_for m keep) xs) (weaker (IsFieldOf k) (IsFromFixup k) (fields_for m keep x) (λ e is. record { p = k; from = omega arith; is = is }) (own_listed k x (from_first k x xs from)))
+      (weaker (IsFromFixup (k + 1)) (IsFromFixup k) (flat_map (fields_for m keep) xs) (λ e l. let low = l.from in record { p = l.p; from = omega (arith, low); is = l.is }) (listed_from (k + 1) xs (from_rest k x xs from)))
 
-  all_listed : AllByRecursion (IsListed 0) (fields_of m keep fs)
+  all_listed : AllByRecursion (IsFromFixup 0) (fields_of m keep fs)
   unfolding fields_of
   all_listed = listed_from 0 fs (λ j x here. let same : 0 + j ≡ j = omega arith in ap (slice_get fs) same ∙ here)
 
@@ -244,7 +244,7 @@ module _ (file : List ℕ) (keep : Keep) (sections : stage_fault (section_stage 
   distinct_from k (x ∷ xs) from =
       distinct_join (fields_for m keep x) (flat_map (fields_for m keep) xs) (own_distinct k x (from_first k x xs from)) (distinct_from (k + 1) xs (from_rest k x xs from))
       (weaker (IsFieldOf k) (λ a. AllByRecursion (λ y. at_one a y ≡ false) (flat_map (fields_for m keep) xs)) (fields_for m keep x)
-      (λ a own. weaker (IsListed (k + 1)) (λ y. at_one a y ≡ false) (flat_map (fields_for m keep) xs) (λ y l. let from = l.from in not_one k l.p a y own l.is (omega (arith, from))) (listed_from (k + 1) xs (from_rest k x xs from)))
+      (λ a own. weaker (IsFromFixup (k + 1)) (λ y. at_one a y ≡ false) (flat_map (fields_for m keep) xs) (λ y l. let from = l.from in not_one k l.p a y own l.is (omega (arith, from))) (listed_from (k + 1) xs (from_rest k x xs from)))
       (own_listed k x (from_first k x xs from)))
 
   all_distinct : IsDistinct at_one (fields_of m keep fs)
@@ -316,8 +316,8 @@ module _ (file : List ℕ) (keep : Keep) (sections : stage_fault (section_stage 
     each_from P (x ∷ xs) all zero d low = all.0
     each_from P (x ∷ xs) all (suc k) d low = each_from P xs all.1 k d (omega (arith, low))
 
-    pub listed_at : (j : ℕ) (d : FixupField) → j < length fields → IsListed 0 (get_or fields j d)
-    listed_at j d low = All-permutation (IsListed 0) (fields_of m keep fs) fields are (each_from (IsListed 0) (fields_of m keep fs) all_listed) j d low
+    pub listed_at : (j : ℕ) (d : FixupField) → j < length fields → IsFromFixup 0 (get_or fields j d)
+    listed_at j d low = All-permutation (IsFromFixup 0) (fields_of m keep fs) fields are (each_from (IsFromFixup 0) (fields_of m keep fs) all_listed) j d low
 
     -- none before it is at its place
     pub not_among : (j : ℕ) (d : FixupField) → j < length fields → is_among (take j fields) (get_or fields j d).section (get_or fields j d).at ≡ false

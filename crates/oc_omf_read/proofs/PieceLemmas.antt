@@ -4,7 +4,7 @@ use Rattle.std.proofs.lemmas.{Bool.{true≢false}, Bool.Decides.{nat_tests}}
 use Rattle.oc_omf_records.specs.declared.records.Entry.{Entry as Record}
 use Rattle.oc_omf.specs.{declared.cut.Cut.{Cut}, Cursor.{Reading, index_read, next, number_read}, Structures.{blocks_by, long_size, piece_read}}
 use Rattle.oc_omf.specs.{Entries.{Entry, all_read, is_wide}, Sections.{blocks_in}}
-use Rattle.oc_omf_read.specs.{declared.class.EntryClass.{EntryClass}, declared.pieces.Piece.{Piece}, Classes.{class_of}, Defined.{read_in, said}}
+use Rattle.oc_omf_read.specs.{declared.class.EntryClass.{EntryClass}, declared.pieces.FoundPiece.{FoundPiece}, Classes.{class_of}, Defined.{read_in, said}}
 use Rattle.oc_omf_read.specs.Pieces.{ArePieces, row_in}
 use Rattle.oc_omf_read.specs.declared.class.EntryClass.TheVariants as class
 use Rattle.oc_omf_read.proofs.{ClassLemmas.{has_no_data, read_whole}, DefinedLemmas.{said_by_class}}
@@ -12,7 +12,7 @@ use Rattle.oc_omf_read.proofs.{ClassLemmas.{has_no_data, read_whole}, DefinedLem
 -- ... one structure
 
 module _ (wide iterated : Bool) (b : List ℕ) where
-  pub piece_made : (segment at offset behind : ℕ) (p : Piece) → Ok (segment, at) ≡ index_read b 0 → Ok (offset, behind) ≡ number_read (long_size wide) b at → p.segment ≡ segment → p.offset ≡ offset
+  pub piece_made : (segment at offset behind : ℕ) (p : FoundPiece) → Ok (segment, at) ≡ index_read b 0 → Ok (offset, behind) ≡ number_read (long_size wide) b at → p.segment ≡ segment → p.offset ≡ offset
       → row_in p.data ≡ blocks_in (blocks_by wide iterated (drop behind b)) → ArePieces (Some p) (read_in (piece_read wide iterated b 0))
   unfolding piece_read
   piece_made segment at offset behind p first second segment_is offset_is row = (

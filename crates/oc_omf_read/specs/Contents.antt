@@ -5,7 +5,7 @@ use Rattle.oc_neutral.specs.Building.{is_zero}
 use Rattle.oc_omf_records.specs.Blocks.{Blocks, denotation, size_of}
 use Rattle.oc_omf.specs.{declared.structures.Segment.{Segment}, Sections.{blocks_in, contents_of, segment_kind, segment_size}, Tables.{Tables}}
 use Rattle.oc_omf.specs.Structures as structures
-use Rattle.oc_omf_read.specs.{declared.pieces.Piece.{Piece}, Pieces.{row_in}, Sections.{kind_in}}
+use Rattle.oc_omf_read.specs.{declared.pieces.FoundPiece.{FoundPiece}, Pieces.{row_in}, Sections.{kind_in}}
 use Rattle.oc_omf_judge.specs.declared.defined.Defined.{Defined}
 
 -- bytes with those that blocks stand for in their place, where these fit
@@ -15,7 +15,7 @@ laid_by offset row bytes =
     else take offset bytes ++ (denotation row ++ drop (offset + size_of row) bytes)
 
 -- the bytes of segment k, counted from 0, with some data in their place
-abbrev pub laid_piece : Piece → ℕ → List ℕ → List ℕ
+abbrev pub laid_piece : FoundPiece → ℕ → List ℕ → List ℕ
 laid_piece p k bytes = if nat_eq p.segment (k + 1) then laid_by p.offset (row_in p.data) bytes else bytes
 
 -- with data in the order of the list

@@ -8,7 +8,7 @@ use Rattle.oc_omf.specs.{declared.structures.Fixup.{Fixup}, declared.structures.
 use Rattle.oc_omf.specs.{Fixups.{Fixed, fixed_in, last_of, subrecords_upto}, Known.{AreInForce}, Sections.{blocks_in}, Tables.{tables_of}, Targets.{Meaning}}
 use Rattle.oc_omf.specs.Structures as structures
 use Rattle.oc_omf_read.specs.{declared.fields.Behind.{Behind}, declared.fields.FixupField.{FixupField}, declared.fix.Fix.{Fix}}
-use Rattle.oc_omf_read.specs.{declared.fixes.FixupContext.{FixupContext}, declared.pieces.Piece.{Piece}, declared.searched.Searched.{Searched}}
+use Rattle.oc_omf_read.specs.{declared.fixes.FixupContext.{FixupContext}, declared.pieces.FoundPiece.{FoundPiece}, declared.searched.Searched.{Searched}}
 use Rattle.oc_omf_read.specs.{Aims.{fix_for, fix_for_threads, meaning_seen, method_of_frame, method_of_target}, Given.{given_at}}
 use Rattle.oc_omf_read.specs.Pieces.{ArePieces, IsPiece, row_in}
 
@@ -21,7 +21,7 @@ abbrev pub copies_in : Blocks → ℕ → List ℕ
 copies_in row at = unwrap_or (copies_of row at) []
 
 -- the fields of a fixup at an offset of some data
-abbrev pub fields_in : Piece → Fix → ℕ → List FixupField
+abbrev pub fields_in : FoundPiece → Fix → ℕ → List FixupField
 fields_in p fix at = fields_at (p.segment - 1) p.offset fix (copies_in (row_in p.data) at)
 
 -- the fields of a fixup of data of a segment at an offset, with that frame and that target
@@ -39,34 +39,34 @@ fields_of m keep xs = flat_map (fields_for m keep) xs
 -- ... as the program has them
 
 -- the data that are held
-abbrev pub held : Behind → Option Piece
+abbrev pub held : Behind → Option FoundPiece
 held b = option_map (λ (s : Searched). s.piece) b.piece
 
 -- what a fixup after what is held does
 abbrev pub fix_behind : Meaning → Keep → Behind → Fixup → Option Fix
-fix_behind m keep b f = option_and_then (λ (p : Piece). fix_for_threads m keep b.threads p.segment f) (held b)
+fix_behind m keep b f = option_and_then (λ (p : FoundPiece). fix_for_threads m keep b.threads p.segment f) (held b)
 
 -- the fields of a fixup after what is held
 abbrev pub fields_behind : Meaning → Keep → Behind → Fixup → List FixupField
 fields_behind m keep b f =
-    option_map_or (λ (p : Piece). fields_by m keep p.segment p.offset (row_in p.data) f (method_of_frame b.threads f) (method_of_target b.threads f)) (held b) []
+    option_map_or (λ (p : FoundPiece). fields_by m keep p.segment p.offset (row_in p.data) f (method_of_frame b.threads f) (method_of_target b.threads f)) (held b) []
 
 -- data lie in a section that is small enough
-abbrev pub IsLow : Piece → Type 0
+abbrev pub IsLow : FoundPiece → Type 0
 IsLow p = p.offset + size_of (row_in p.data) ≤ 2147483647
 
-abbrev pub AreLow : Option Piece → Type 0
+abbrev pub AreLow : Option FoundPiece → Type 0
 AreLow None = Unit {0}
 AreLow (Some p) = IsLow p
 
 -- data that are held are the last
-abbrev pub IsLast : Option Piece → Option structures.Piece → Type 0
+abbrev pub IsLast : Option FoundPiece → Option structures.Piece → Type 0
 IsLast None o = o ≡ None
 IsLast (Some p) o = (d : structures.Piece) × (o ≡ Some d) × IsPiece p d
 
 -- the data of an entry are held, where it has some, or else those that were
 pub record HasData (ds : List structures.Piece) (old new : Behind) : Type 0 where
-  pub found : Option Piece
+  pub found : Option FoundPiece
   pub are : ArePieces found ds
   pub threads : new.threads ≡ old.threads
   pub piece : held new ≡ or_else found (held old)

@@ -10,7 +10,7 @@ ghost use Rattle.oc_omf_read.specs.Contents as contents;
 ghost use Rattle.oc_omf_read.specs.Defined.{said};
 
 use crate::known::kind_in;
-use crate::pieces::{Piece, piece_of};
+use crate::pieces::{FoundPiece, piece_of};
 use oc_base::NoMemory;
 use oc_neutral::Kind;
 use oc_omf::{Data, Module};
@@ -41,7 +41,7 @@ fn lay_data(alloc: Global, bytes: &mut Vec<u8>, offset: u32, blocks: &Data) -> R
 }
 
 // puts data into the bytes of their segment
-fn lay_piece(alloc: Global, bytes: &mut Vec<Vec<u8>>, piece: &Piece) -> Result<(), NoMemory>
+fn lay_piece(alloc: Global, bytes: &mut Vec<Vec<u8>>, piece: &FoundPiece) -> Result<(), NoMemory>
     ensures long { OnOk result (length bytes.new.items ≡ length bytes.old.items) }
     ensures each { OnOk result (contents.AreLaid (contents.laid_piece piece.now) bytes.old.items bytes.new.items) }
 {

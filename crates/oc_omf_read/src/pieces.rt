@@ -15,7 +15,7 @@ use std::alloc::Global;
 
 /// The data of an entry, and where they lie.
 #[derive(Drop)]
-pub struct Piece<'a> {
+pub struct FoundPiece<'a> {
     /// The index of their segment.
     pub(crate) segment: u16,
     /// The offset of the first byte that they stand for, in bytes.
@@ -24,7 +24,7 @@ pub struct Piece<'a> {
     pub(crate) data: Option<Data<'a>>,
 }
 
-impl<'a> Piece<'a> {
+impl<'a> FoundPiece<'a> {
     /// How many bytes they stand for, or 2^32 where there are more. Linear in the encoded data; no
     /// memory.
     pub(crate) fn size(&self) -> u64
@@ -61,7 +61,7 @@ fn read_piece<'a>(
     alloc: Global,
     entry: &Entry<'a>,
     iterated: bool,
-) -> Result<Option<Piece<'a>>, NoMemory>
+) -> Result<Option<FoundPiece<'a>>, NoMemory>
     ensures { IfOk result (λ piece. pieces.ArePieces piece (read_in (piece_read (is_wide entry.now.kind) iterated entry.now.contents 0))) }
 {
     let wide = is_wide(entry.kind);
@@ -72,7 +72,7 @@ fn read_piece<'a>(
         return Ok(None);
     };
     let data = data_behind(alloc, &entry.contents, at, wide, iterated)?;
-    Ok(Some(Piece {
+    Ok(Some(FoundPiece {
         segment,
         offset,
         data,
@@ -81,7 +81,10 @@ fn read_piece<'a>(
 
 /// The data of an entry, if it has some that are not cut. `NoMemory` where memory ran out. Linear in
 /// the entry.
-pub(crate) fn piece_of<'a>(alloc: Global, entry: &Entry<'a>) -> Result<Option<Piece<'a>>, NoMemory>
+pub(crate) fn piece_of<'a>(
+    alloc: Global,
+    entry: &Entry<'a>,
+) -> Result<Option<FoundPiece<'a>>, NoMemory>
     ensures { IfOk result (λ piece. pieces.ArePieces piece (all_read (said entry.now).pieces)) }
 {
     match class_of(entry.kind) {

@@ -2,7 +2,7 @@
 ghost use Rattle.oc_omf_read.specs.Pieces.{row_in};
 ghost use Rattle.oc_omf_read.specs.Searched.{AreFruitless};
 
-use crate::pieces::Piece;
+use crate::pieces::FoundPiece;
 use oc_base::NoMemory;
 use oc_omf_records::CopyFault;
 use std::alloc::Global;
@@ -12,7 +12,7 @@ use std::collections::BTreeMap;
 /// again for each fixup in it.
 #[derive(Drop)]
 pub struct Searched<'a> {
-    pub(crate) piece: Piece<'a>,
+    pub(crate) piece: FoundPiece<'a>,
     // places of encoded bytes that were found to have no copy: there are at most 1,024
     fruitless: BTreeMap<u16, u8>,
     ghost kept: { AreFruitless (row_in piece.data) fruitless },
@@ -26,7 +26,7 @@ impl<'a> Searched<'a> {
     ghost use Rattle.oc_omf_read.specs.Pieces.{row_in};
 
     /// Data in which nothing was looked for. Constant time.
-    pub(crate) fn new(alloc: Global, piece: Piece<'a>) -> Searched<'a>
+    pub(crate) fn new(alloc: Global, piece: FoundPiece<'a>) -> Searched<'a>
         ensures { result.piece ≡ piece.entry }
     {
         Searched {

@@ -15,7 +15,7 @@ use Rattle.oc_omf_file.specs.Pieces.{fields_between}
 use Rattle.oc_omf_file.specs.Outputs as output
 use Rattle.oc_omf_file.proofs.{BehindLaws.{IsDataAt, Behind}, CodedLaws.{IsForOmf, field_is, inside, width_is}, MadeLaw.{Fits}}
 use Rattle.oc_omf_file.proofs.SmallLaws.{between, segment_there, length-raw, behind, all_small}
-use Rattle.oc_omf_write.specs.{declared.fixups.Fixup.{Fixup}, declared.tables.Tables.{Tables}, Entries.{entry_for}, Names.{segment_in}, Made.{IsMade}}
+use Rattle.oc_omf_write.specs.{declared.fixups.Fixup.{Fixup}, declared.tables.WrittenTables.{WrittenTables}, Entries.{entry_for}, Names.{segment_in}, Made.{IsMade}}
 use Rattle.oc_omf_write.specs.{Pieces.{FollowWithin, fixups_at}, Raws.{sections_in}, Tables.{fixups_of, public_by, contents_by, CanPut}}
 use Rattle.oc_omf_write.specs.Written.{fixup_bytes_of, IsSmallFixup, fixup_with}
 use Rattle.oc_omf_write.proofs.{PieceLemmas.{few_between, follow_from}, FixupLemmas.{has_index}}
@@ -23,7 +23,7 @@ use Rattle.oc_omf_write.proofs.PlannedLemmas.{names_same, section_is, between_fi
 use Rattle.oc_omf_write.specs.Written as written
 
 -- an entry that can be put, with the bytes of an output
-abbrev pub IsPut : Object → Tables → Output → Type 0
+abbrev pub IsPut : Object → WrittenTables → Output → Type 0
 IsPut n t o = CanPut t (entry_for o) × (contents_by t (entry_for o) ≡ output_contents n o)
 
 -- the numbers of a frame are small
@@ -41,7 +41,7 @@ frame_index_low row = by (nat_eq row 1)
     by true = omega arith
     by false = omega arith
 
-module _ (n : Object) (is : IsForOmf n) (t : Tables) (numbers : List ℕ) (made : IsMade n t numbers) where
+module _ (n : Object) (is : IsForOmf n) (t : WrittenTables) (numbers : List ℕ) (made : IsMade n t numbers) where
   pub section_there : (k : ℕ) (s : Section) → slice_get n.sections k ≡ Some s → slice_get t.sections.items k ≡ Some (with_contents (raw_of n k s) s)
   section_there k s here = ap (λ xs. slice_get xs k) made.sections ∙ section_is n k s here
 

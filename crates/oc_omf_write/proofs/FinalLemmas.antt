@@ -9,7 +9,7 @@ use Rattle.oc_omf_file.specs.{Outputs.{Output, outputs_of, piece_outputs, data_o
 use Rattle.oc_omf_file.proofs.{BehindLaws.{OfSymbol, symbols_are}, CodedLaws.{IsForOmf, short_names}, ListLemmas.{all_both}, NameLaws.{filled_small}}
 use Rattle.oc_omf_file.specs.Outputs as output
 use Rattle.oc_omf.specs.Bytes.{entry_bytes}
-use Rattle.oc_omf_write.specs.{declared.entries.Entry.{Entry}, declared.tables.Tables.{Tables}, Entries.{type_of, entry_for}, Made.{IsMade}}
+use Rattle.oc_omf_write.specs.{declared.entries.Entry.{Entry}, declared.tables.WrittenTables.{WrittenTables}, Entries.{type_of, entry_for}, Made.{IsMade}}
 use Rattle.oc_omf_write.specs.{Names.{names_entry, texts_in, IsRange}, Pieces.{data_entries}, Plans.{AreEntries, parts_by, omf_parts}, Raws.{addend_in}}
 use Rattle.oc_omf_write.specs.{Written.{fixups_in}, Tables.{texts_of, fixups_of, bytes_by, CanPut}}
 use Rattle.oc_omf_write.specs.declared.entries.Entry.TheVariants as entry
@@ -36,7 +36,7 @@ segments_are k [] = refl
 segments_are k (s ∷ ss) = ap (λ es. entry.Segment k ∷ es) (segments_are (k + 1) ss)
 
 -- the entries behind those of names
-rest_are : (n : Object) (numbers : List ℕ) (t : Tables) (symbols : List Entry) → IsMade n t numbers → symbols ≡ map entry_for (symbol_outputs n) → length t.sections.items ≡ length n.sections
+rest_are : (n : Object) (numbers : List ℕ) (t : WrittenTables) (symbols : List Entry) → IsMade n t numbers → symbols ≡ map entry_for (symbol_outputs n) → length t.sections.items ≡ length n.sections
     → (bytes : List Entry) → bytes ≡ map entry_for (flat_map (data_outputs n) (enumerate_from 0 n.sections))
     → map entry.Segment (range_with_len 0 (length t.sections.items)) ++ (entry.Group ∷ symbols ++ (bytes ++ entry.End ∷ [])) ≡ map entry_for (rest_of n)
 rest_are n numbers t symbols made of long bytes is =
@@ -107,19 +107,19 @@ none_of_names n =
 
 -- ... entries of names
 
-names_bytes : (n : Object) (t : Tables) (ranges : List (ℕ × ℕ)) → map (bytes_by t) (map names_entry ranges) ≡ map (output_bytes n) (map output.Names (map (texts_in (texts_of t)) ranges))
+names_bytes : (n : Object) (t : WrittenTables) (ranges : List (ℕ × ℕ)) → map (bytes_by t) (map names_entry ranges) ≡ map (output_bytes n) (map output.Names (map (texts_in (texts_of t)) ranges))
 unfolding output_contents
 names_bytes n t [] = refl
 names_bytes n t (x ∷ ranges) = ap (λ bs. bytes_by t (names_entry x) ∷ bs) (names_bytes n t ranges)
 
-names_put : (t : Tables) (ranges : List (ℕ × ℕ)) → AllByRecursion (IsRange (length (texts_of t))) ranges
+names_put : (t : WrittenTables) (ranges : List (ℕ × ℕ)) → AllByRecursion (IsRange (length (texts_of t))) ranges
     → ((k : ℕ) (xs : List (List ℕ)) → slice_get (map (texts_in (texts_of t)) ranges) k ≡ Some xs → names_size xs ≤ 1024) → AllByRecursion (CanPut t) (map names_entry ranges)
 names_put t [] inside small = tt
 names_put t (x ∷ ranges) inside small = ((inside.0, small 0 (texts_in (texts_of t) x) refl), names_put t ranges inside.1 (λ k xs h. small (suc k) xs h))
 
 -- ... other entries
 
-rest_bytes : (n : Object) (t : Tables) (os : List Output) → ((k : ℕ) (o : Output) → slice_get os k ≡ Some o → IsPut n t o × NoNames o) → map (bytes_by t) (map entry_for os) ≡ map (output_bytes n) os
+rest_bytes : (n : Object) (t : WrittenTables) (os : List Output) → ((k : ℕ) (o : Output) → slice_get os k ≡ Some o → IsPut n t o × NoNames o) → map (bytes_by t) (map entry_for os) ≡ map (output_bytes n) os
 rest_bytes n t [] each = refl
 rest_bytes n t (o ∷ os) each =
     let own = each 0 o refl in
@@ -138,19 +138,19 @@ rest_bytes n t (o ∷ os) each =
     type_is (output.Fixups k s from to) = refl
     type_is output.End = refl
 
-rest_put : (n : Object) (t : Tables) (os : List Output) → ((k : ℕ) (o : Output) → slice_get os k ≡ Some o → IsPut n t o × NoNames o) → AllByRecursion (CanPut t) (map entry_for os)
+rest_put : (n : Object) (t : WrittenTables) (os : List Output) → ((k : ℕ) (o : Output) → slice_get os k ≡ Some o → IsPut n t o × NoNames o) → AllByRecursion (CanPut t) (map entry_for os)
 rest_put n t [] each = tt
 rest_put n t (o ∷ os) each = ((each 0 o refl).0.0, rest_put n t os (λ k p h. each (suc k) p h))
 
 -- ... all
 
 -- the header is the same
-header_same : (n : Object) (t : Tables)
+header_same : (n : Object) (t : WrittenTables)
     → (bytes_by t entry.Header ∷ map (output_bytes n) (map output.Names (filled_from [] (names_of n)) ++ rest_of n)) ≡ map (output_bytes n) ((output.Header ∷ map output.Names (filled_from [] (names_of n))) ++ rest_of n)
 unfolding output_contents
 header_same n t = refl
 
-module _ (n : Object) (is : IsForOmf n) (t : Tables) (numbers : List ℕ) (made : IsMade n t numbers) (symbols entries : List Entry) (of : symbols ≡ map entry_for (symbol_outputs n)) (are : AreEntries t symbols entries) where
+module _ (n : Object) (is : IsForOmf n) (t : WrittenTables) (numbers : List ℕ) (made : IsMade n t numbers) (symbols entries : List Entry) (of : symbols ≡ map entry_for (symbol_outputs n)) (are : AreEntries t symbols entries) where
   -- how many sections there are
   counted : length t.sections.items ≡ length n.sections
   counted = ap length made.sections ∙ length-map (enumerate_from 0 n.sections) (section_with_numbers (addend_in n) n.relocs) ∙ length-enumerate_from 0 n.sections

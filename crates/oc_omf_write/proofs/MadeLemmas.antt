@@ -4,11 +4,11 @@ use Rattle.std.specs.List.{AllByRecursion}
 use Rattle.std.proofs.lemmas.List.{length-map}
 use Rattle.oc_neutral.specs.Objects.{Object}
 use Rattle.oc_omf_file.proofs.CodedLaws.{IsForOmf, few_names}
-use Rattle.oc_omf_write.specs.{declared.entries.Entry.{Entry}, declared.tables.Tables.{Tables}, Made.{IsMadeWith}, Names.{text_by}, Pieces.{AreInSections}}
+use Rattle.oc_omf_write.specs.{declared.entries.Entry.{Entry}, declared.tables.WrittenTables.{WrittenTables}, Made.{IsMadeWith}, Names.{text_by}, Pieces.{AreInSections}}
 use Rattle.oc_omf_write.specs.{Plans.{AreEntries, parts_by, omf_parts}, Tables.{AreSound, fixups_of, CanPut}}
 use Rattle.oc_omf_write.proofs.{FinalLemmas.{entries_put, entries_same}, ReadyLemmas.{sections_counted, sound, in_sections, few}}
 
-module _ (n : Object) (is : IsForOmf n) (t : Tables) (symbols : List Entry) (with : IsMadeWith n t symbols) where
+module _ (n : Object) (is : IsForOmf n) (t : WrittenTables) (symbols : List Entry) (with : IsMadeWith n t symbols) where
   pub made_sound : AreSound t
   made_sound = sound n is t with.numbers with.made with.named
 

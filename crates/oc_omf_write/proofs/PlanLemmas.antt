@@ -4,9 +4,9 @@ use Rattle.oc_neutral.specs.Objects.{Object}
 use Rattle.oc_shelf.specs.{declared.writing.layout.Layout.{Layout}, Writing.Parts.{behind, file_of, table_of, pieces_by, IsPlaced}}
 use Rattle.oc_plans.proofs.PlacedLemmas.{file_laid, joined_rows, joined_table, placed_laid}
 use Rattle.oc_omf_file.specs.{Canonical.{output_bytes, omf_file}, Outputs.{outputs_of}}
-use Rattle.oc_omf_write.specs.{declared.entries.Entry.{Entry}, declared.tables.Tables.{Tables}, Plans.{AreLaid, parts_by, omf_parts}, Tables.{bytes_by}}
+use Rattle.oc_omf_write.specs.{declared.entries.Entry.{Entry}, declared.tables.WrittenTables.{WrittenTables}, Plans.{AreLaid, parts_by, omf_parts}, Tables.{bytes_by}}
 
-module _ (t : Tables) (entries : List Entry) (layout : Layout) (are : AreLaid t layout entries) where
+module _ (t : WrittenTables) (entries : List Entry) (layout : Layout) (are : AreLaid t layout entries) where
   -- they are placed
   pub placed : IsPlaced layout (parts_by t entries)
   placed = placed_laid behind (λ (e : Entry). length (bytes_by t e)) (bytes_by t) entries layout are (λ at e. omega arith) (λ e. refl)

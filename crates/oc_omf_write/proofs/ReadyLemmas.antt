@@ -9,7 +9,7 @@ use Rattle.oc_omf_file.specs.{Fixups.{raw_of}, Names.{names_of, filled_from, nam
 use Rattle.oc_omf_file.specs.{Outputs.{Output, symbol_outputs, external_output, communal_output, public_output}, Pieces.{pieces_upto, piece_end}}
 use Rattle.oc_omf_file.specs.Outputs as output
 use Rattle.oc_omf_file.proofs.{BehindLaws.{OfSymbol, symbols_are}, CodedLaws.{IsForOmf, short_names, few_names, size_low}, SmallLaws.{length-raw}}
-use Rattle.oc_omf_write.specs.{declared.entries.Entry.{Entry}, declared.fixups.Fixup.{Fixup}, declared.tables.Tables.{Tables}, Entries.{entry_for}}
+use Rattle.oc_omf_write.specs.{declared.entries.Entry.{Entry}, declared.fixups.Fixup.{Fixup}, declared.tables.WrittenTables.{WrittenTables}, Entries.{entry_for}}
 use Rattle.oc_omf_write.specs.{Made.{IsMade}, Names.{IsNameOf, IsSegment, names_entry, texts_in, names_for, segment_in}, Numbers.{HasPlace, AreNumbers}}
 use Rattle.oc_omf_write.specs.{Pieces.{AreInSections, FollowWithin, fixups_at, piece_entries, section_entries, data_entries, places_of}, Plans.{AreEntries}}
 use Rattle.oc_omf_write.specs.{Raws.{addend_in, sections_in}, Tables.{AreSound, texts_of, fixups_of}}
@@ -124,7 +124,7 @@ filled_few held (name ∷ names) = by (nat_lt 1024 (names_size held + 1 + length
 pub sections_in_counted : (n : Object) → length (sections_in n) ≡ length n.sections
 sections_in_counted n = length-map (enumerate_from 0 n.sections) (section_with_numbers (addend_in n) n.relocs) ∙ length-enumerate_from 0 n.sections
 
-module _ (n : Object) (is : IsForOmf n) (t : Tables) (numbers : List ℕ) (made : IsMade n t numbers) where
+module _ (n : Object) (is : IsForOmf n) (t : WrittenTables) (numbers : List ℕ) (made : IsMade n t numbers) where
   pub sections_counted : length t.sections.items ≡ length n.sections
   sections_counted = ap length made.sections ∙ sections_in_counted n
 
@@ -188,7 +188,7 @@ module _ (n : Object) (is : IsForOmf n) (t : Tables) (numbers : List ℕ) (made 
       omega (arith, sections, count, names, texts, ranges, given, low, bytes, last, behind, segments, segments_long, range, front, front_long, all)
 
 -- what is made of the parts
-pub are_made : (n : Object) (t : Tables) (numbers : List ℕ) → t.sections.items ≡ sections_in n → t.segments.items ≡ map (segment_in t.sections.items) t.sections.items → texts_of t ≡ names_for t.sections.items
+pub are_made : (n : Object) (t : WrittenTables) (numbers : List ℕ) → t.sections.items ≡ sections_in n → t.segments.items ≡ map (segment_in t.sections.items) t.sections.items → texts_of t ≡ names_for t.sections.items
     → t.symbols.items ≡ n.symbols → fixups_of t ≡ written.fixups_in numbers n → AreNumbers n numbers → IsMade n t numbers
 are_made n t numbers sections segments texts symbols fixups numbered = record {
   sections = sections;

@@ -6,17 +6,17 @@ use Rattle.oc_neutral.specs.{declared.section.Section.{Section}, declared.symbol
 use Rattle.oc_omf.specs.declared.structures.Segment as read
 use Rattle.oc_omf_file.specs.{Canonical.{size_by, public_at}, Names.{names_size}}
 use Rattle.oc_omf.specs.Bytes.{entry_bytes, name_bytes, index_bytes, segment_bytes, external_bytes, communal_bytes, data_bytes}
-use Rattle.oc_omf_write.specs.{declared.entries.Entry.{Entry}, declared.fixups.Fixup.{Fixup}, declared.tables.Tables.{Tables}, Entries.{type_of}}
+use Rattle.oc_omf_write.specs.{declared.entries.Entry.{Entry}, declared.fixups.Fixup.{Fixup}, declared.tables.WrittenTables.{WrittenTables}, Entries.{type_of}}
 use Rattle.oc_omf_write.specs.{Names.{text_by, IsNameOf, IsSegment, AreShort, IsRange}, Pieces.{fixups_at, AreInOrder}}
 use Rattle.oc_omf_write.specs.Written.{between, fixup_bytes_of, IsSmallFixup}
 use Rattle.oc_omf_write.specs.declared.entries.Entry.TheVariants as entry
 
 -- the texts of the names
-abbrev pub texts_of : Tables → List (List ℕ)
+abbrev pub texts_of : WrittenTables → List (List ℕ)
 texts_of t = map (text_by t.sections.items) t.names.items
 
 -- the fixups of each section
-abbrev pub fixups_of : Tables → List (List Fixup)
+abbrev pub fixups_of : WrittenTables → List (List Fixup)
 fixups_of t = map (λ v. v.items) t.fixups.items
 
 -- a symbol as what is put where it is defined here
@@ -28,7 +28,7 @@ abbrev pub piece_bytes : ℕ → ℕ → ℕ → Section → List ℕ
 piece_bytes k from to s = data_bytes (k + 1) from (slice_range s.bytes from to)
 
 -- the contents of an entry
-abbrev pub contents_by : Tables → Entry → List ℕ
+abbrev pub contents_by : WrittenTables → Entry → List ℕ
 contents_by t entry.Header = name_bytes (codes "objconv")
 contents_by t (entry.Names from to) = flat_map name_bytes (slice_range (texts_of t) from to)
 contents_by t (entry.Segment k) = option_map_or segment_bytes (slice_get t.segments.items k) []
@@ -41,7 +41,7 @@ contents_by t (entry.Fixups k from to) = flat_map (fixup_bytes_of from) (between
 contents_by t entry.End = 0 ∷ []
 
 -- the bytes of an entry
-abbrev pub bytes_by : Tables → Entry → List ℕ
+abbrev pub bytes_by : WrittenTables → Entry → List ℕ
 bytes_by t e = entry_bytes (type_of e) (contents_by t e)
 
 -- ... what fits
@@ -82,7 +82,7 @@ pub record IsAt {X : Type 0} (P : X → Type 0) (xs : List X) (k : ℕ) : Type 0
   pub passes : P item
 
 -- an entry whose contents can be put
-abbrev pub CanPut : Tables → Entry → Type 0
+abbrev pub CanPut : WrittenTables → Entry → Type 0
 CanPut t entry.Header = Unit {0}
 CanPut t (entry.Names from to) = IsRange (length (texts_of t)) (from, to) × (names_size (slice_range (texts_of t) from to) ≤ 1024)
 CanPut t (entry.Segment k) = IsAt IsSmallSegment t.segments.items k
@@ -96,7 +96,7 @@ CanPut t (entry.Fixups k from to) =
 CanPut t entry.End = Unit {0}
 
 -- each section can be a segment, the names are short and those of sections, and the fixups are in order
-pub record AreSound (t : Tables) : Type 0 where
+pub record AreSound (t : WrittenTables) : Type 0 where
   pub segments : AllByRecursion IsSegment t.sections.items
   pub named : AllByRecursion (IsNameOf (length t.sections.items)) t.names.items
   pub short : AreShort (texts_of t)

@@ -5,7 +5,7 @@ ghost use Rattle.oc_omf_write.specs.Plans.{AreLaid};
 ghost use Rattle.oc_omf_write.specs.Tables.{AreSound, CanPut};
 
 use crate::entries::Entry;
-use crate::tables::Tables;
+use crate::tables::WrittenTables;
 use crate::windows::entry_size;
 use oc_base::NoMemory;
 use oc_shelf::Layout;
@@ -15,7 +15,7 @@ use std::alloc::Global;
 /// file, but for the logarithm of a section's fixups.
 pub(crate) fn layout_of(
     alloc: Global,
-    tables: &Tables,
+    tables: &WrittenTables,
     entries: &[Entry],
 ) -> Result<Layout, NoMemory>
     requires few { length entries.now < 2 ^ 50 }

@@ -4,7 +4,7 @@ ghost use Rattle.std.specs.List.{AllByRecursion};
 ghost use Rattle.std.specs.Map.{update};
 ghost use Rattle.std.specs.Option.{unwrap_or};
 ghost use Rattle.oc_neutral.specs.Omf.Kinds.{omf_class};
-ghost use Rattle.oc_neutral.specs.declared.section.Section.{Section as Held};
+ghost use Rattle.oc_neutral.specs.declared.section.Section.{Section as HeldSection};
 ghost use Rattle.oc_omf_file.specs.Names.{with_name};
 ghost use Rattle.oc_omf_write.specs.Names as texts;
 
@@ -87,7 +87,7 @@ fn place_of(places: &BTreeMap<&[u8], usize>, text: &[u8]) -> Option<usize>
 impl<'a> Names<'a> {
     // no names
     fn new(alloc: Global) -> Names<'a>
-        ensures { (sections : List Held) → texts.AreNames sections [] result }
+        ensures { (sections : List HeldSection) → texts.AreNames sections [] result }
     {
         Names {
             list: Vec::new(alloc),
@@ -97,7 +97,7 @@ impl<'a> Names<'a> {
 
     // adds a name with its text, where that is new
     fn add(&mut self, name: Name, text: &'a [u8]) -> Result<(), NoMemory>
-        ensures { OnOk result ((sections : List Held) (done : List (List ℕ)) → texts.IsNameOf (length sections) name
+        ensures { OnOk result ((sections : List HeldSection) (done : List (List ℕ)) → texts.IsNameOf (length sections) name
             → texts.text_by sections name ≡ text.now → texts.AreNames sections done self.old
             → texts.AreNames sections (with_name done text.now) self.new) }
     {
@@ -111,7 +111,7 @@ impl<'a> Names<'a> {
 
     // adds the empty name and that of the group
     fn add_first(&mut self) -> Result<(), NoMemory>
-        ensures { OnOk result ((sections : List Held) → texts.AreNames sections [] self.old → texts.AreUpto sections 0 self.new) }
+        ensures { OnOk result ((sections : List HeldSection) → texts.AreNames sections [] self.old → texts.AreUpto sections 0 self.new) }
     {
         self.add(Name::Empty, b"")?;
         self.add(Name::Flat, b"FLAT")?;
@@ -121,7 +121,7 @@ impl<'a> Names<'a> {
     // adds the name and the class of the section at a position
     fn add_section(&mut self, k: u32, section: &'a Section) -> Result<(), NoMemory>
         requires { texts.IsSegment section.now }
-        ensures { OnOk result ((sections : List Held) → slice_get sections k ≡ Some section.now
+        ensures { OnOk result ((sections : List HeldSection) → slice_get sections k ≡ Some section.now
             → texts.AreUpto sections k self.old → texts.AreUpto sections (k + 1) self.new) }
     {
         self.add(Name::Section(k), section.name.as_slice())?;

@@ -2,7 +2,7 @@
 ghost use Rattle.std.specs.Prelude.{◌≡◌, ◌<◌, Some, length, slice_get};
 
 use crate::entries::Entry;
-use crate::tables::Tables;
+use crate::tables::WrittenTables;
 use crate::windows::entry_window;
 use oc_shelf::Parts;
 
@@ -13,7 +13,7 @@ pub type Plan = oc_plans::Plan<OmfParts>;
 #[derive(Debug, Drop)]
 pub struct OmfParts {
     /// What they are made of.
-    pub(crate) tables: Tables,
+    pub(crate) tables: WrittenTables,
     /// The entries, in their order.
     pub(crate) entries: Vec<Entry>,
 }

@@ -22,7 +22,7 @@ use crate::plan::{OmfParts, Plan};
 use crate::raw::Addends;
 use crate::segments::segments_of;
 use crate::symbols::symbol_entries;
-use crate::tables::Tables;
+use crate::tables::WrittenTables;
 use oc_base::NoMemory;
 use oc_neutral::{Neutral, Section, Symbol};
 use oc_plans::with_numbers;
@@ -53,7 +53,11 @@ fn add_segments(entries: &mut Vec<Entry>, count: u32) -> Result<(), NoMemory>
 }
 
 // the entries of a file that is made of these, with these entries of its symbols
-fn entries_of(alloc: Global, tables: &Tables, symbols: &[Entry]) -> Result<Vec<Entry>, NoMemory>
+fn entries_of(
+    alloc: Global,
+    tables: &WrittenTables,
+    symbols: &[Entry],
+) -> Result<Vec<Entry>, NoMemory>
     requires few { length tables.now.sections.items < 2 ^ 31 }
     requires names { length tables.now.names.items < 2 ^ 32 }
     requires sound { AreSound tables.now }
@@ -72,7 +76,7 @@ fn entries_of(alloc: Global, tables: &Tables, symbols: &[Entry]) -> Result<Vec<E
 }
 
 // what a file of an object that is ready for OMF is made of, and the entries of its symbols
-fn tables_of(alloc: Global, fitted: Fitted) -> Result<(Tables, Vec<Entry>), NoMemory>
+fn tables_of(alloc: Global, fitted: Fitted) -> Result<(WrittenTables, Vec<Entry>), NoMemory>
     requires { fitted.format ≡ Omf }
     ensures { IfOk result (λ made. IsMadeWith fitted made.0 made.1.items) }
 {
@@ -85,7 +89,7 @@ fn tables_of(alloc: Global, fitted: Fitted) -> Result<(Tables, Vec<Entry>), NoMe
     let names = Names::of(alloc, &sections)?;
     let segments = segments_of(alloc, &names, &sections)?;
     let names = names.into_list();
-    let tables = Tables {
+    let tables = WrittenTables {
         sections,
         segments,
         names,

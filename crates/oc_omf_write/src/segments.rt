@@ -2,7 +2,7 @@
 ghost use Rattle.std.specs.Prelude.{◌≡◌, ◌-◌, ◌^◌, ◌<◌, List, IfOk, length, map, nat_eq, true};
 ghost use Rattle.std.specs.List.{AllByRecursion, list_any};
 ghost use Rattle.oc_neutral.specs.Omf.Family.{omf_aligns};
-ghost use Rattle.oc_neutral.specs.declared.section.Section.{Section as Held};
+ghost use Rattle.oc_neutral.specs.declared.section.Section.{Section as HeldSection};
 ghost use Rattle.oc_omf_file.specs.Canonical.{code_by};
 ghost use Rattle.oc_omf_file.specs.Names as classes;
 ghost use Rattle.oc_omf_write.specs.Names.{AreNames, IsIndexed, IsSegment, names_for, segment_in};
@@ -34,7 +34,7 @@ fn segment_of(names: &Names<'_>, section: &Section) -> Segment
     requires name { IsIndexed names.now section.now.name }
     requires class { IsIndexed names.now (classes.class_of section.now) }
     requires segment { IsSegment section.now }
-    ensures { (sections : List Held) → AreNames sections (names_for sections) names.now → result ≡ segment_in sections section.now }
+    ensures { (sections : List HeldSection) → AreNames sections (names_for sections) names.now → result ≡ segment_in sections section.now }
 {
     Segment {
         wide: true,

@@ -2,7 +2,7 @@
 ghost use Rattle.std.specs.Prelude.{◌≡◌, ◌++◌, [], ◌∷◌, IfOk, OnOk, map, filter_map};
 ghost use Rattle.std.specs.List.{enumerate_from};
 ghost use Rattle.std.specs.Option.{option_map, option_map_or};
-ghost use Rattle.oc_neutral.specs.declared.symbol.Symbol.{Symbol as Held};
+ghost use Rattle.oc_neutral.specs.declared.symbol.Symbol.{Symbol as HeldSymbol};
 ghost use Rattle.oc_omf_file.specs.Outputs.{communal_by, communal_output, external_by, external_output, public_by, public_output, symbol_outputs};
 ghost use Rattle.oc_omf_write.specs.Entries.{entry_for};
 
@@ -13,7 +13,7 @@ use std::alloc::Global;
 
 // the entry of a symbol that is defined elsewhere
 fn external(k: u32, binding: Binding) -> Option<Entry>
-    ensures { (s : Held) → result ≡ option_map entry_for (external_by binding k s) }
+    ensures { (s : HeldSymbol) → result ≡ option_map entry_for (external_by binding k s) }
 {
     match binding {
         Binding::Undefined => Some(Entry::External(k)),
@@ -23,7 +23,7 @@ fn external(k: u32, binding: Binding) -> Option<Entry>
 
 // that of a communal
 fn communal(k: u32, binding: Binding) -> Option<Entry>
-    ensures { (s : Held) → result ≡ option_map entry_for (communal_by binding k s) }
+    ensures { (s : HeldSymbol) → result ≡ option_map entry_for (communal_by binding k s) }
 {
     match binding {
         Binding::Common { .. } => Some(Entry::Communal(k)),
@@ -33,7 +33,7 @@ fn communal(k: u32, binding: Binding) -> Option<Entry>
 
 // that of a symbol that is defined here, and seen from elsewhere
 fn public(k: u32, binding: Binding) -> Option<Entry>
-    ensures { (s : Held) → result ≡ option_map entry_for (public_by binding k s) }
+    ensures { (s : HeldSymbol) → result ≡ option_map entry_for (public_by binding k s) }
 {
     match binding {
         Binding::Global(_) => Some(Entry::Public(k)),

@@ -1,7 +1,7 @@
 //! What a file is made of, and the contents of its entries.
 ghost use Rattle.std.specs.Prelude.{◌≡◌, ◌+◌, ◌*◌, ◌<◌, ◌≤◌, ◌++◌, [], length, map, flat_map, slice_get, slice_range, Some};
 ghost use Rattle.std.specs.List.{AllByRecursion};
-ghost use Rattle.oc_neutral.specs.declared.section.Section.{Section as Held};
+ghost use Rattle.oc_neutral.specs.declared.section.Section.{Section as HeldSection};
 ghost use Rattle.oc_omf_file.specs.Canonical.{size_by};
 ghost use Rattle.oc_omf_file.specs.Names.{names_size};
 ghost use Rattle.oc_omf.specs.Bytes.{communal_bytes, name_bytes};
@@ -26,7 +26,7 @@ const MODULE: &[u8] = b"objconv";
 
 /// What a file is made of.
 #[derive(Debug, Drop)]
-pub(crate) struct Tables {
+pub(crate) struct WrittenTables {
     /// The sections, with the numbers in their fields.
     pub(crate) sections: Vec<Section>,
     /// Their segments.
@@ -117,7 +117,7 @@ fn put_symbol(out: &mut Contents, symbol: &Symbol)
     put_public(out, base, symbol.name.as_slice(), offset);
 }
 
-impl Tables {
+impl WrittenTables {
     // puts the names from a position up to another
     fn put_names(&self, out: &mut Contents, from: u32, to: u32)
         requires sound { tables.AreSound self.now }
@@ -132,7 +132,7 @@ impl Tables {
     fn put_bytes(&self, out: &mut Contents, section: u32, from: u32, to: u32)
         requires there { tables.IsAt (tables.IsPieceOf section from to) self.now.sections.items section }
         requires room { length out.old + 1030 ≤ ROOM }
-        ensures { (s : Held) → slice_get self.now.sections.items section ≡ Some s → out.new ≡ out.old ++ tables.piece_bytes section from to s }
+        ensures { (s : HeldSection) → slice_get self.now.sections.items section ≡ Some s → out.new ≡ out.old ++ tables.piece_bytes section from to s }
     {
         let bytes = self.sections[section as usize].bytes.as_slice();
         put_data(

@@ -3,15 +3,15 @@ use Rattle.std.specs.{Prelude.{◌≡◌, ℕ, ◌≤◌, ◌⊎◌, List, [], �
 use Rattle.std.specs.{Ordering.{nat_cmp}, Cmp.Lexicographic.{slice_cmp}, FinMap.{FinMap, get, insert, remove}}
 
 -- a finite map from names, as bytes
-abbrev pub Named : Type 0 → Type 0
-Named X = FinMap (slice_cmp nat_cmp) X
+abbrev pub NameMap : Type 0 → Type 0
+NameMap X = FinMap (slice_cmp nat_cmp) X
 
 -- what each file holds, by its name
 abbrev pub Held : Type 0
-Held = Named (List ℕ)
+Held = NameMap (List ℕ)
 
 -- the map with this value at the name, or with none
-abbrev pub put : {X : Type 0} → Option X → List ℕ → Named X → Named X
+abbrev pub put : {X : Type 0} → Option X → List ℕ → NameMap X → NameMap X
 put None name m = remove m name
 put (Some x) name m = insert m name x
 

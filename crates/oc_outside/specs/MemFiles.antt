@@ -2,12 +2,12 @@
 use Rattle.std.specs.Prelude.{◌≡◌, ℕ, ◌-◌, ◌||◌, Bool, List, [], ◌++◌, length, min, take, drop, is_none, refl}
 use Rattle.std.specs.Coded.{Coded, code_by, coded×, coded_ℕ, coded_list}
 use Rattle.std.specs.FinMap as map
-use Rattle.oc_outside.specs.{Held.{Held, Named, file_of}, Calls.{next_call, is_due, risen}, Slots.{room_of, lacks_room}}
+use Rattle.oc_outside.specs.{Held.{Held, NameMap, file_of}, Calls.{next_call, is_due, risen}, Slots.{room_of, lacks_room}}
 
 -- the files, the room of each name that has one, the number of calls so far, those set to fail, and the two counts
 pub record FilesState : Type 0 where
   pub held : Held
-  pub rooms : Named ℕ
+  pub rooms : NameMap ℕ
   pub calls : ℕ
   pub failing : List ℕ
   pub read_faults : ℕ
@@ -20,7 +20,7 @@ numbers_code = coded_list coded_ℕ
 -- a state is stored as the tuple of its fields
 abbrev pub files_code : Coded FilesState
 files_code =
-    code_by (Held × (Named ℕ × (ℕ × (List ℕ × (ℕ × ℕ)))))
+    code_by (Held × (NameMap ℕ × (ℕ × (List ℕ × (ℕ × ℕ)))))
     (coded× (map.code numbers_code numbers_code)
     (coded× (map.code numbers_code coded_ℕ) (coded× coded_ℕ (coded× numbers_code (coded× coded_ℕ coded_ℕ)))))
     (λ s. (s.held, (s.rooms, (s.calls, (s.failing, (s.read_faults, s.write_faults))))))

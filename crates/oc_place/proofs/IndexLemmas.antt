@@ -14,7 +14,7 @@ use Rattle.oc_linking.proofs.{FirstFaultLaws.{first_upto_none}, Upto.{first_upto
 use Rattle.oc_neutral.specs.{declared.symbol.Symbol.{Symbol}, Objects.{Object}, Faces.{shown_symbol, shown_symbols}, Invariants.{AreDistinct}}
 use Rattle.oc_strings.specs.Repeats.{NameList, name_at, nonlocal_name, place_of}
 use Rattle.oc_strings.proofs.RepeatLemmas.{named_within}
-use Rattle.oc_place.specs.{declared.index.Named.{Named}, Indexes.{AddsName, AreListed, IsIndex, IsNamed, compared, is_of, present, texts}}
+use Rattle.oc_place.specs.{declared.index.NamedSymbol.{NamedSymbol}, Indexes.{AddsName, AreListed, IsIndex, IsNamed, compared, is_of, present, texts}}
 use Rattle.oc_place.specs.Written.{names_of, symbol_named}
 use Rattle.oc_shows.proofs.Reordered.{shown_local}
 
@@ -127,7 +127,7 @@ present_more : (all : NameList) (k : ℕ) (o : Option (List ℕ)) → slice_get 
 present_more all k o here = ap present (take_more all k o (slice_get_within all k o here) ∙ ap (λ y. take k all ++ y ∷ []) (get_or_from_slice_get all k o o here)) ∙ present-append (take k all) (o ∷ [])
 
 -- the next symbol
-pub one_listed : (all : NameList) (k : ℕ) (local : Bool) (name : List ℕ) (old new : List Named) → slice_get all k ≡ Some (cond local None (Some name))
+pub one_listed : (all : NameList) (k : ℕ) (local : Bool) (name : List ℕ) (old new : List NamedSymbol) → slice_get all k ≡ Some (cond local None (Some name))
     → AddsName local name k old new → AreListed all k old → AreListed all (k + 1) new
 one_listed all k true name old new there same listed = subst (AreListed all (k + 1)) (sym same) (record {
   listed = listed.listed ∙ sym (present_more all k None there ∙ append-nil (present (take k all)));
@@ -138,7 +138,7 @@ one_listed all k true name old new there same listed = subst (AreListed all (k +
   ];
 })
 one_listed all k false name old new there adds listed = subst (AreListed all (k + 1)) (sym adds.1) (record {
-  listed = map-append (λ (x : Named). x.name.now) old (adds.0 ∷ []) ∙ ap (λ xs. xs ++ adds.0.name.now ∷ []) listed.listed ∙ ap (λ m. present (take k all) ++ m ∷ []) adds.2
+  listed = map-append (λ (x : NamedSymbol). x.name.now) old (adds.0 ∷ []) ∙ ap (λ xs. xs ++ adds.0.name.now ∷ []) listed.listed ∙ ap (λ m. present (take k all) ++ m ∷ []) adds.2
       ∙ sym (present_more all k (Some name) there);
   each = All-push (IsNamed all) old adds.0 listed.each (ap (name_at all) adds.3 ∙ ap option_flatten there ∙ ap Some (sym adds.2));
   all = λ j other low at. list_any-append (is_of other) old (adds.0 ∷ []) ∙ elim (cases_eq j k) [
@@ -158,10 +158,10 @@ one_listed all k false name old new there adds listed = subst (AreListed all (k 
     left a b e = ap (λ c. c || (b || false)) e
 
 -- listed and put in order
-pub in_order : (all : NameList) (old new : List Named) → AreListed all (length all) old → IsPermutation old new → IsSorted compared new → ((k : ℕ) (name : List ℕ) → name_at all k ≡ Some name → k < length all)
+pub in_order : (all : NameList) (old new : List NamedSymbol) → AreListed all (length all) old → IsPermutation old new → IsSorted compared new → ((k : ℕ) (name : List ℕ) → name_at all k ≡ Some name → k < length all)
     → IsIndex all new
 in_order all old new listed moved sorted within = record {
-  moved = subst (λ xs. IsPermutation xs (texts new)) (listed.listed ∙ ap present (take_all (length all) all (omega arith))) (IsPermutation-map (λ (x : Named). x.name.now) old new moved);
+  moved = subst (λ xs. IsPermutation xs (texts new)) (listed.listed ∙ ap present (take_all (length all) all (omega arith))) (IsPermutation-map (λ (x : NamedSymbol). x.name.now) old new moved);
   sorted = sorted;
   each = All-permutation (IsNamed all) old new moved listed.each;
   all = λ k name here. sym (list_any-IsPermutation (is_of name) old new moved) ∙ listed.all k name (within k name here) here;
@@ -170,18 +170,18 @@ in_order all old new listed moved sorted within = record {
 -- ... searching
 
 -- names that compare as equal are one
-same_name : (name : List ℕ) (x : Named) (o : Ordering) → slice_cmp nat_cmp x.name.now name ≡ o → is_of name x ≡ is_eq o
+same_name : (name : List ℕ) (x : NamedSymbol) (o : Ordering) → slice_cmp nat_cmp x.name.now name ≡ o → is_of name x ≡ is_eq o
 same_name name x o e = nat_list_eq_equiv.symm name x.name.now ∙ sym (is_eq-slice_cmp x.name.now name) ∙ ap is_eq e
 
-module _ (n : Object) (fine : AreDistinct n.symbols) (entries : List Named) (index : IsIndex (names n) entries) (name : List ℕ) where
+module _ (n : Object) (fine : AreDistinct n.symbols) (entries : List NamedSymbol) (index : IsIndex (names n) entries) (name : List ℕ) where
   low : (k : ℕ) → name_at (names n) k ≡ Some name → k < length (shown_symbols n)
   low k here = let l = named_within (names n) k name here in let e = length-map (shown_symbols n) (λ (y : parts.Symbol). nonlocal_name y.binding y.name) in omega (arith, l, e)
 
   -- the entry that is found is of the symbol with the name
-  pub found_at : (i : ℕ) (d : Named) → i < length entries → slice_cmp nat_cmp (get_or entries i d).name.now name ≡ Equal
+  pub found_at : (i : ℕ) (d : NamedSymbol) → i < length entries → slice_cmp nat_cmp (get_or entries i d).name.now name ≡ Equal
       → (symbol_named (shown_symbols n) name ≡ Some (get_or entries i d).at) × ((get_or entries i d).at < length n.symbols)
   found_at i d inside compares =
-      let x : Named = get_or entries i d in
+      let x : NamedSymbol = get_or entries i d in
       let named : IsNamed (names n) x = index.each i d inside in
       let same : name ≡ x.name.now = (bytes_eq-Decides name x.name.now).0 (same_name name x Equal compares) in
       let here : name_at (names n) x.at ≡ Some name = named ∙ ap Some (sym same) in
@@ -192,9 +192,9 @@ module _ (n : Object) (fine : AreDistinct n.symbols) (entries : List Named) (ind
       )
 
   -- none is
-  pub found_none : (i : ℕ) → IsBinarySearchResult (λ (x : Named). slice_cmp nat_cmp x.name.now name) entries (Err i) → symbol_named (shown_symbols n) name ≡ None
+  pub found_none : (i : ℕ) → IsBinarySearchResult (λ (x : NamedSymbol). slice_cmp nat_cmp x.name.now name) entries (Err i) → symbol_named (shown_symbols n) name ≡ None
   found_none i found =
-      let parted = found (searchable_from_sorted nat_list_cmp_total (λ (x : Named). x.name.now) entries name index.sorted) in
+      let parted = found (searchable_from_sorted nat_list_cmp_total (λ (x : NamedSymbol). x.name.now) entries name index.sorted) in
       let none : list_any (is_of name) entries ≡ false = list_any_none (is_of name) entries (λ k d l. elim (cases_lt k i) [
         | inl before ↦ same_name name (get_or entries k d) Less (parted.0 k d (omega arith) before)
         | inr after ↦ same_name name (get_or entries k d) Greater (parted.1 k d after l)

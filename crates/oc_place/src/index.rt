@@ -14,7 +14,7 @@ use std::alloc::Global;
 
 /// A name, and the position of its symbol.
 #[derive(Clone, Copy, Debug, Drop)]
-pub struct Named<'a> {
+pub struct NamedSymbol<'a> {
     /// The name.
     pub name: &'a [u8],
     /// The position of its symbol, from 0.
@@ -29,13 +29,17 @@ fn is_local(binding: Binding) -> bool
 }
 
 // lists the name of the symbol at a position, where it is not Local
-fn list_name<'a>(names: &mut Vec<Named<'a>>, symbol: &'a Symbol, at: u32) -> Result<(), NoMemory>
+fn list_name<'a>(
+    names: &mut Vec<NamedSymbol<'a>>,
+    symbol: &'a Symbol,
+    at: u32,
+) -> Result<(), NoMemory>
     ensures { OnOk result (indexes.AddsName (parts.is_local symbol.now.binding) symbol.now.name at names.old.items names.new.items) }
 {
     if is_local(symbol.binding) {
         return Ok(());
     }
-    names.push(Named {
+    names.push(NamedSymbol {
         name: symbol.name.as_slice(),
         at,
     })?;
@@ -43,7 +47,7 @@ fn list_name<'a>(names: &mut Vec<Named<'a>>, symbol: &'a Symbol, at: u32) -> Res
 }
 
 // the names of all symbols that are not Local
-fn list_names(alloc: Global, object: &Neutral) -> Result<Vec<Named<'_>>, NoMemory>
+fn list_names(alloc: Global, object: &Neutral) -> Result<Vec<NamedSymbol<'_>>, NoMemory>
     ensures { IfOk result (λ names. indexes.AreListed (names_of (shown_symbols object.now)) (length object.now.symbols) names.items) }
 {
     let mut names = Vec::new(alloc);
@@ -54,7 +58,7 @@ fn list_names(alloc: Global, object: &Neutral) -> Result<Vec<Named<'_>>, NoMemor
 }
 
 // puts names in order
-fn sort(names: &mut Vec<Named<'_>>)
+fn sort(names: &mut Vec<NamedSymbol<'_>>)
     ensures same { IsPermutation names.old.items names.new.items }
     ensures sorted { IsSorted indexes.compared names.new.items }
 {
@@ -63,7 +67,7 @@ fn sort(names: &mut Vec<Named<'_>>)
 
 /// The names of an object's symbols that are not Local, in order. Time is that of a sort; takes
 /// memory for a slice and a number of each.
-pub fn index_of(alloc: Global, object: &Neutral) -> Result<Vec<Named<'_>>, NoMemory>
+pub fn index_of(alloc: Global, object: &Neutral) -> Result<Vec<NamedSymbol<'_>>, NoMemory>
     ensures { IfOk result (λ names. IsIndex (names_of (shown_symbols object.now)) names.items) }
 {
     let mut names = list_names(alloc, object)?;
@@ -73,7 +77,7 @@ pub fn index_of(alloc: Global, object: &Neutral) -> Result<Vec<Named<'_>>, NoMem
 
 /// The position of the symbol with a name, among the names of an object. Time is logarithmic in
 /// their number, and linear in the name; no memory.
-pub(crate) fn position_of(object: &Neutral, names: &[Named<'_>], name: &[u8]) -> Option<u32>
+pub(crate) fn position_of(object: &Neutral, names: &[NamedSymbol<'_>], name: &[u8]) -> Option<u32>
     requires { IsIndex (names_of (shown_symbols object.now)) names.now }
     ensures position { result ≡ symbol_named (shown_symbols object.now) name.now }
     ensures there { IfSome result (λ at. at < length object.now.symbols) }

@@ -16,7 +16,7 @@ mod shapes;
 mod spot;
 
 pub use fault::{PlaceCode, PlaceFault};
-pub use index::{Named, index_of};
+pub use index::{NamedSymbol, index_of};
 pub use laws::{footprints_agree, placed_can_link};
 pub use placements::Placements;
 pub use reading::read_place;

@@ -11,7 +11,7 @@ ghost use Rattle.oc_place.specs.Written as lines;
 
 use crate::entry::PlacementLine;
 use crate::fault::PlaceCode;
-use crate::index::{Named, position_of};
+use crate::index::{NamedSymbol, position_of};
 use crate::spot::{Outside, Spot};
 use oc_base::{NoMemory, word_of};
 use oc_neutral::Neutral;
@@ -144,7 +144,7 @@ impl Notebook {
     pub(crate) fn add(
         &mut self,
         object: &Neutral,
-        names: &[Named<'_>],
+        names: &[NamedSymbol<'_>],
         entry: PlacementLine,
         name: &[u8],
     ) -> Result<(), PlaceCode>

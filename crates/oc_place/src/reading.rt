@@ -11,7 +11,7 @@ ghost use Rattle.oc_place.specs.Written as lines;
 
 use crate::checks::check;
 use crate::fault::{PlaceCode, PlaceFault};
-use crate::index::{Named, index_of};
+use crate::index::{NamedSymbol, index_of};
 use crate::notebook::Notebook;
 use crate::placements::{Placements, into_placed};
 use crate::shapes::line_of;
@@ -25,7 +25,7 @@ use std::alloc::Global;
 fn read_line(
     alloc: Global,
     object: &Neutral,
-    names: &[Named<'_>],
+    names: &[NamedSymbol<'_>],
     notebook: &mut Notebook,
     line: u32,
     text: &[u8],
@@ -65,7 +65,7 @@ fn next_line(text: &[u8]) -> Option<(&[u8], &[u8])>
 fn read_lines(
     alloc: Global,
     object: &Neutral,
-    names: &[Named<'_>],
+    names: &[NamedSymbol<'_>],
     text: &[u8],
 ) -> Result<Notebook, PlaceFault>
     requires index { IsIndex (lines.names_of (shown_symbols object.now)) names.now }

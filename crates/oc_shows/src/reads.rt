@@ -20,7 +20,8 @@ pub trait Reads {
     /// and relocations in the sections that are kept.
     ///
     /// Refused exactly where the file has a fault when it is read under `keep`, with the first one;
-    /// `NoMemory` where memory ran out.
+    /// `NoMemory` where memory ran out, or where the file asks for more than the reader takes of any file
+    /// (its own page says from which size on).
     fn read(&self, alloc: Global, bytes: &[u8], keep: &Keep) -> Result<Neutral, Stop>
         requires { length bytes.now ≤ MOST_INPUT }
         ensures well_formed { OnOk result (dialect.rules.fault bytes.now keep.now ≡ None) }

@@ -5,7 +5,7 @@ ghost use Rattle.std.specs.List.{list_any};
 ghost use Rattle.std.specs.Option.{option_and_then};
 ghost use Rattle.oc_shows.specs.SymbolLines.{is_weak_with};
 ghost use Rattle.oc_strings.specs.Tables.{texts};
-ghost use Rattle.oc_neutral.specs.declared.symbol.Symbol.{Symbol as Named};
+ghost use Rattle.oc_neutral.specs.declared.symbol.Symbol.{Symbol as HeldSymbol};
 ghost use Rattle.oc_neutral.specs.Coff.Strings as strings;
 ghost use Rattle.oc_neutral.specs.Families.{family_of};
 ghost use Rattle.oc_neutral.specs.Faces as faces;
@@ -79,7 +79,7 @@ fn add_default(alloc: Global, names: &mut Vec<Bytes>, symbol: &Symbol) -> Result
 /// The names of the symbols for fallbacks, in the order of their Weaks. `NoMemory` where memory ran
 /// out. Time is linear in the symbols and their names.
 pub fn default_names(alloc: Global, neutral: &Neutral) -> Result<Vec<Bytes>, NoMemory>
-    ensures { IfOk result (λ names. names.items ≡ flat_map (λ (s : Named). strings.defaults_of s.name s.binding) neutral.now.symbols) }
+    ensures { IfOk result (λ names. names.items ≡ flat_map (λ (s : HeldSymbol). strings.defaults_of s.name s.binding) neutral.now.symbols) }
 {
     let mut names = Vec::new(alloc);
     for k in 0..neutral.symbol_count() {
@@ -238,7 +238,7 @@ pub fn given_names<'a>(
     names: &'a [Bytes],
     defaults: &'a [Bytes],
 ) -> Result<TableNames<'a>, NoMemory>
-    requires defaults { defaults.now ≡ flat_map (λ (s : Named). strings.defaults_of s.name s.binding) neutral.now.symbols }
+    requires defaults { defaults.now ≡ flat_map (λ (s : HeldSymbol). strings.defaults_of s.name s.binding) neutral.now.symbols }
     ensures names { IfOk result (λ given. texts given.names.items ≡ strings.coff_strings (family_of target).writes_local names.now neutral.now) }
     ensures places { IfOk result (λ given. HavePlaces (texts given.names.items) names.now given.places.items) }
 {

@@ -17,7 +17,7 @@ const MOST_ENTRIES: u64 = 1 << 23;
 /// least, so a file of at most 2^26 bytes has no room for more but by data that are repeated.
 const MOST_FIELDS: u64 = (1 << 26) / 7;
 
-/// The most bytes that a text has that shows an object: twice what a file to be written may have.
+/// The most bytes that a text that shows an object has, up to its last name: half a GiB.
 const MOST_TEXT: u64 = 1 << 29;
 
 // a sum, as long as it is at most `most`
@@ -33,8 +33,9 @@ fn sum_upto(most: u64, before: u64, more: u64) -> Result<u64, NoMemory>
 
 /// What names weigh with one more of so many bytes, each 64 more than its bytes.
 ///
-/// `NoMemory` exactly where that is above 1 GiB: no object with so many bytes of names can be written,
-/// and one with fewer has more names than a file has room for. Constant time.
+/// `NoMemory` exactly where that is above 1 GiB. All names of a file are weighed, also of what is then
+/// dropped or renamed; so a file that could be written may be above it, though none is known that a tool
+/// made. Constant time.
 pub fn with_name(weight: u64, bytes: u64) -> Result<u64, NoMemory>
     ensures sum { IfOk result (λ sum. sum ≡ weight + 64 + bytes) }
     ensures most { IsOk result ↔ weight + 64 + bytes ≤ 2 ^ 30 }
@@ -67,8 +68,8 @@ pub fn with_fields(fields: u64, more: u64) -> Result<u64, NoMemory>
 
 /// How many bytes a text has with so many more.
 ///
-/// `NoMemory` exactly where that is above 2^29 bytes: what shows an object is made in memory, as the
-/// object is. Constant time.
+/// `NoMemory` exactly where that is above 2^29 bytes: what shows an object is made in memory, beside the
+/// object. Constant time.
 pub fn with_text(text: u64, bytes: u64) -> Result<u64, NoMemory>
     ensures sum { IfOk result (λ sum. sum ≡ text + bytes) }
     ensures most { IsOk result ↔ text + bytes ≤ 2 ^ 29 }

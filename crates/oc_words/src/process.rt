@@ -6,7 +6,7 @@ use std::env;
 
 impl Words {
     /// The words that the process was started with, without the program's name. `NoMemory` where memory
-    /// ran out, which it also does above 2^32 - 1 words. Linear in their bytes.
+    /// ran out, where a word is not UTF-8, and above 2^32 - 1 words. Linear in their bytes.
     pub fn of_process(rt: &HostRuntime) -> Result<Words, NoMemory> {
         let mut words = Words::new(rt.alloc());
         let Ok(args) = env::args(rt) else {

@@ -6,7 +6,7 @@ use Rattle.oc_base.specs.{declared.code.Code.TheVariants.{Overlap}, declared.fau
 use Rattle.oc_linking.specs.Numbers.{or_else}
 use Rattle.oc_shelf.specs.{Reading.Firsts.{any_upto}, Reading.Spans.{meets}}
 use Rattle.oc_shelf.proofs.ReadingLaws.BitmapLemmas.{met_in_upto}
-use Rattle.oc_coff_judge.specs.{declared.relocs.Table.{Table}, Relocs.{bytes_for, meets_upto, reloc_fault, span_of, width_of}}
+use Rattle.oc_coff_judge.specs.{declared.relocs.RelocTable.{RelocTable}, Relocs.{bytes_for, meets_upto, reloc_fault, span_of, width_of}}
 use Rattle.oc_coff_judge.proofs.{AimLemmas.{aim_anywhere}, JudgedRelocs.{busy_told, idle_entry, idle_span}}
 use Rattle.oc_coff_judge.proofs.TakenBytes.{HasRow, field_in_room, has_row, span_is, taken_more, taken_same, wide_field}
 use Rattle.oc_coff_judge.proofs.relocs.judge_entry.Goals as goal
@@ -37,7 +37,7 @@ take-requires c =
     omega (arith, inside, width, c.from-begin.ensures)
 
 -- whether a field is met is whether it meets one of the entries before
-met : (w : Word) (file : CoffFile) (table : Table) (k begin width : ℕ) (r : Relocation) (b : Bool) → begin ≡ r.VirtualAddress → width ≡ width_of w r
+met : (w : Word) (file : CoffFile) (table : RelocTable) (k begin width : ℕ) (r : Relocation) (b : Bool) → begin ≡ r.VirtualAddress → width ≡ width_of w r
     → b ≡ any_upto (λ j. option_map_or (meets (begin, begin + width)) (span_of w file table j) false) k → b ≡ meets_upto w file table k r
 met w file table k begin width r b begins wide e =
     e ∙ ap (λ (n : ℕ). any_upto (λ j. option_map_or (meets (n, n + width)) (span_of w file table j) false) k) begins

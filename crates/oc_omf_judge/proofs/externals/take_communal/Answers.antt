@@ -2,7 +2,7 @@
 use Rattle.std.proofs.Common.{◌≡◌, ℕ, true, false, cond, nat_eq, length, Some, None, refl, sym, ◌∙◌, ap, arith}
 use Rattle.std.specs.{Option.{option_map_or}, Prelude.{not}, List.{list_any}}
 use Rattle.std.proofs.lemmas.Bool.Decides.{nat_tests}
-use Rattle.oc_omf_judge.specs.{Held.{value_at}, EarlierSymbols.{external_with}}
+use Rattle.oc_omf_judge.specs.{NameNumbers.{value_at}, EarlierSymbols.{external_with}}
 use Rattle.oc_base.specs.declared.code.Code.TheVariants.{DuplicateName, SymbolKind}
 use Rattle.oc_linking.specs.Numbers.{or_else}
 use Rattle.oc_omf.specs.SymbolFaults.{is_empty, is_other_length, symbol_fault}

@@ -1,7 +1,7 @@
 -- The first of a name is taken up.
 use Rattle.std.proofs.Common.{◌≡◌, ℕ, List, Some, sym, ◌∙◌, ap, subst}
 use Rattle.std.specs.{Prelude.{bytes_eq, is_some}, Map.{update}}
-use Rattle.oc_omf_judge.specs.Held.{value_at}
+use Rattle.oc_omf_judge.specs.NameNumbers.{value_at}
 use Rattle.oc_omf_judge.proofs.LocalLemmas.{local_known, local_new, local_other}
 use Rattle.oc_omf_judge.proofs.locals.locate.Goals as goal
 

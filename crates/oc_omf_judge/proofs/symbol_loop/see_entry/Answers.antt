@@ -3,7 +3,7 @@ use Rattle.std.proofs.Common.{Bool, refl, sym, subst}
 use Rattle.std.proofs.lemmas.Result.{IfErr-weaker, on_ok_weaker}
 use Rattle.oc_omf.specs.{declared.topics.Topic.{Topic}, Cursor.{each_read}, Entries.{in_file}, Structures.{communal_read, external_read}, Topics.{said_on}}
 use Rattle.oc_omf.specs.declared.topics.Topic.TheVariants as topic
-use Rattle.oc_omf_judge.specs.{Held.{Held}, EarlierSymbols.{AreExternalsStopped, IsSeenThere, IsStoppedAnywhere, IsStoppedThere}}
+use Rattle.oc_omf_judge.specs.{NameNumbers.{NameNumbers}, EarlierSymbols.{AreExternalsStopped, IsSeenThere, IsStoppedAnywhere, IsStoppedThere}}
 use Rattle.oc_omf_judge.proofs.SeenEntry.{communals_seen, communals_stop, externals_seen, externals_stop, nothing_seen}
 use Rattle.oc_omf_judge.proofs.symbol_loop.see_entry.Goals as goal
 
@@ -33,7 +33,7 @@ returns-in-Publics-clause-taken c =
 
 pub returns-in-Publics-clause-stop : goal.returns-in-Publics-clause-stop
 returns-in-Publics-clause-stop c =
-    IfErr-weaker c.take_public_entry.result (λ s. (known : Held) → IsStoppedThere known c.args.seen.now c.args.spot (topic.Publics c.in-Publics.local) c.args.wide c.args.contents.now s)
+    IfErr-weaker c.take_public_entry.result (λ s. (known : NameNumbers) → IsStoppedThere known c.args.seen.now c.args.spot (topic.Publics c.in-Publics.local) c.args.wide c.args.contents.now s)
     (IsStoppedThere c.args.known.now c.args.seen.now c.args.spot c.args.topic c.args.wide c.args.contents.now)
     (λ s stopped. subst (λ (a : Topic). IsStoppedThere c.args.known.now c.args.seen.now c.args.spot a c.args.wide c.args.contents.now s) (sym c.in-Publics.is) (stopped c.args.known.now)) c.take_public_entry.ensures.stop
 
@@ -56,7 +56,7 @@ returns-in-Communals-clause-taken c =
 
 pub returns-in-Communals-clause-stop : goal.returns-in-Communals-clause-stop
 returns-in-Communals-clause-stop c =
-    IfErr-weaker c.take_communals.result (λ s. (known : Held) → AreExternalsStopped known c.args.seen.now c.args.spot.index (in_file c.args.spot.place (each_read communal_read c.args.contents.now 0)) s)
+    IfErr-weaker c.take_communals.result (λ s. (known : NameNumbers) → AreExternalsStopped known c.args.seen.now c.args.spot.index (in_file c.args.spot.place (each_read communal_read c.args.contents.now 0)) s)
     (IsStoppedThere c.args.known.now c.args.seen.now c.args.spot c.args.topic c.args.wide c.args.contents.now)
     (λ s stopped. subst (λ (a : Topic). IsStoppedThere c.args.known.now c.args.seen.now c.args.spot a c.args.wide c.args.contents.now s) (sym c.in-Communals.is)
     (communals_stop c.args.known.now c.args.seen.now c.args.spot.index c.args.spot.place c.args.wide c.args.contents.now s (stopped c.args.known.now))) c.take_communals.ensures.stop

@@ -1,7 +1,7 @@
 -- The name goes to those of its kind.
 use Rattle.std.proofs.Common.{◌≡◌, ℕ, List, Some, refl, sym, ◌∙◌, ap, subst}
 use Rattle.std.specs.{Prelude.{bytes_eq, is_some}, Map.{update}}
-use Rattle.oc_omf_judge.specs.Held.{value_at}
+use Rattle.oc_omf_judge.specs.NameNumbers.{value_at}
 use Rattle.oc_omf_judge.proofs.SeenSteps.{global_seen, local_seen, stood_before}
 use Rattle.oc_omf_judge.proofs.earlier.EarlierSymbols.take_name.Goals as goal
 

@@ -4,7 +4,7 @@ use Rattle.std.specs.Prelude.{flat_map}
 use Rattle.oc_omf_file.specs.Names.{names_size}
 use Rattle.oc_omf.specs.{Bytes.{name_bytes}, declared.contents.TheConstants.{ROOM}}
 use Rattle.oc_omf_write.proofs.TableLemmas.{texts_same, range_short}
-use Rattle.oc_omf_write.proofs.tables.Tables.put_names.Goals as goal
+use Rattle.oc_omf_write.proofs.tables.WrittenTables.put_names.Goals as goal
 
 pub put_names-requires-clause-short : goal.put_names-requires-clause-short
 put_names-requires-clause-short c =

@@ -4,7 +4,7 @@ use Rattle.oc_base.specs.declared.fault.Fault.{Fault}
 use Rattle.oc_convert.specs.Dispatched.{dispatch_refusal}
 use Rattle.oc_built.specs.Built.{built}
 use Rattle.oc_runs.proofs.Refused.{decided, holds_of}
-use Rattle.objconv.proofs.conversion.plan.Goals as goal
+use Rattle.objconv.proofs.conversion.plan_conversion.Goals as goal
 
 pub returns-in-Ok-dispatch-clause-planned : goal.returns-in-Ok-dispatch-clause-planned
 returns-in-Ok-dispatch-clause-planned g c = record {

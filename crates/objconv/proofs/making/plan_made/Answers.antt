@@ -3,7 +3,7 @@ use Rattle.std.proofs.Common.{◌≡◌, List, ℕ, ◌∙◌, ap}
 use Rattle.oc_base.specs.Formats.{word_for}
 use Rattle.oc_made.specs.Files.{made_bytes}
 use Rattle.objconv.proofs.Made.{made_planned, made_short, never_refused}
-use Rattle.objconv.proofs.making.plan.Goals as goal
+use Rattle.objconv.proofs.making.plan_made.Goals as goal
 
 pub dispatch-requires : goal.dispatch-requires
 dispatch-requires c =

@@ -2,7 +2,7 @@ use Rattle.std.proofs.Common.{◌∙◌, subst, sym}
 use Rattle.oc_target.specs.Fitted.{IsFit, IsFitted}
 use Rattle.oc_neutral.specs.{Invariants.{IsObject}, Objects.{Object}}
 use Rattle.oc_express.proofs.{FitIsFitted.{fit_of-fitted}, FitOf.{fit_of-fits}}
-use Rattle.oc_express.proofs.fitting.ready.Goals as goal
+use Rattle.oc_express.proofs.fitting.made_ready.Goals as goal
 
 pub new-requires : goal.new-requires
 new-requires c =
