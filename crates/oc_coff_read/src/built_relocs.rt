@@ -95,7 +95,12 @@ pub(crate) fn reloc_for(
 }
 
 // the entries of the table of section `i` that say something, each with the offset of its field
-fn gathered(alloc: Global, coff: &Coff, i: u32, table: &RelocTable) -> Result<Vec<PlacedEntry>, NoMemory>
+fn gathered(
+    alloc: Global,
+    coff: &Coff,
+    i: u32,
+    table: &RelocTable,
+) -> Result<Vec<PlacedEntry>, NoMemory>
     requires { IsTable coff.now i table.now }
     ensures { IfOk result (λ entries. entries.items ≡ collected (given.placed_at coff.now table.now) table.now.count) }
 {
