@@ -40,7 +40,7 @@ compare: build/objconv
 
 tools: build/objconv build/objlink
 	tools/plant-faults build/objconv build/objlink
-	tools/try-tools --seconds=1200 --table=build/tried.md build/objconv build/objlink
+	tools/try-tools --kept=build/tried.json --table=build/tried.md build/objconv build/objlink
 
 refuse-memory: programs
 	bench/refuse-memory build
