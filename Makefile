@@ -1,7 +1,7 @@
 # make: proves and builds the programs; make check: the whole gate; make install PREFIX=/usr/local
 # make examples: runs the examples of docs/; make compare: times objconv beside objcopy
 # make tools: tries objconv with the tools on the machine (docs/TRIED.md)
-# make refuse-memory: runs jobs with each of their allocations refused in turn, with all later ones
+# make refuse-memory: runs jobs with each of their allocations refused in turn, alone and with all later ones
 
 PREFIX ?= /usr/local
 PROGRAMS = objconv objlink objbatch objlist
@@ -26,10 +26,10 @@ compare: build/objconv
 
 tools: build/objconv build/objlink
 	tools/plant-faults build/objconv build/objlink
-	tools/try-tools --seconds=1200 --table=build/tried.md build/objconv build/objlink
+	tools/try-tools --kept=build/tried.json --table=build/tried.md build/objconv build/objlink
 
-refuse-memory: build/objconv
-	bench/refuse-memory build/objconv
+refuse-memory: programs
+	bench/refuse-memory build
 
 install: programs
 	for program in $(PROGRAMS); do \

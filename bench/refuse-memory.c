@@ -1,9 +1,10 @@
-/* Preloaded, refuses the allocation REFUSE_FROM, counted from 1, and all later ones.
+/* Preloaded, refuses the allocations from REFUSE_FROM, counted from 1, to REFUSE_TO, or all later ones where that is empty.
 
    The functions of the C library that take memory stand here again. At the end the file REFUSE_COUNT, where one is
    named, gets the number of allocations that were asked for. */
 #include <errno.h>
 #include <fcntl.h>
+#include <limits.h>
 #include <stddef.h>
 #include <stdio.h>
 #include <stdlib.h>
@@ -14,13 +15,20 @@ extern void *__libc_calloc(size_t count, size_t size);
 extern void *__libc_realloc(void *old, size_t size);
 extern void *__libc_memalign(size_t align, size_t size);
 
-static unsigned long first, asked;
+static unsigned long first, last, asked;
+
+/* a number of the environment, or another one where it is absent or empty */
+static unsigned long number(const char *name, unsigned long other)
+{
+    const char *text = getenv(name);
+
+    return text == NULL || *text == 0 ? other : strtoul(text, NULL, 10);
+}
 
 __attribute__((constructor)) static void begin(void)
 {
-    const char *text = getenv("REFUSE_FROM");
-
-    first = text == NULL ? 0 : strtoul(text, NULL, 10);
+    first = number("REFUSE_FROM", 0);
+    last = number("REFUSE_TO", ULONG_MAX);
     asked = 0;
 }
 
@@ -43,7 +51,7 @@ __attribute__((destructor)) static void end(void)
 static int refused(void)
 {
     asked++;
-    return first != 0 && asked >= first;
+    return first != 0 && asked >= first && asked <= last;
 }
 
 static void *no_memory(void)

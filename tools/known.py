@@ -14,6 +14,7 @@ Rule = collections.namedtuple("Rule", "name build formats way said")
 
 RULES = [
     Rule("a weak function or variable", r"^(weak\.c|elf_groups)", r"coff\d\d$", "mingw's ld", r"status|undefined reference"),
+    Rule("a weak function or variable", r"^\w+\.cpp-clang-apple", r"^mac\d\d-(\w+-)*coff\d\d$", "mingw's ld", r"^status 5, printed ''$|undefined reference"),
     Rule("destructors (`.fini_array`)", r"^constructors\.c", r"coff\d\d$", "mingw's ld", r"^status 0, printed 'before 12\\nrun 1\\n'$"),
     Rule("a common with an alignment, by mingw's gcc", r"^aligned\.c-(clang-)?mingw", r"^coff\d\d-.*", r"GNU ld|ld\.lld|mingw's ld|lld-link",
          r"^status 0, printed 'line 0\\npage 0\\nzeros \d+\\nconstant 0\\ncode 0\\n'$"),
@@ -25,7 +26,7 @@ RULES = [
     Rule("names of C++ by MSVC", r"\.cpp-clang-msvc", r"^coff\d\d-(\w+-)*elf\d\d$", r"GNU ld|ld\.lld", r"multiple definition of|duplicate symbol|version"),
     Rule("names of C++ by MSVC", r"^virtual\.cpp-clang-msvc", r"^coff\d\d-(\w+-)*elf\d\d$", r"ld\.lld", r"^status 0, printed 'square 49\\noblong \d+\\n"),
     Rule("a name that GNU ld gives itself", r"^pointers\.c-.*(apple|mingw32|msvc32)", r"elf\d\d$", r"^GNU ld", r"^status -11, printed 'before 10\\n'$"),
-    Rule("exceptions of C++", r"^throw\.cpp", r"coff|mac", r"", r"undefined (reference|symbol)|^status -6, printed ''$"),
+    Rule("exceptions of C++", r"^throw\.cpp", r"coff|mac|omf", r"", r"undefined (reference|symbol)|^status -6, printed ''$"),
 ]
 
 

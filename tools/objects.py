@@ -112,7 +112,7 @@ def coff_kind(name, flags):
 
 
 def coff_groups(flags, symbols):
-    """The key of each section of which copies are discarded, by number."""
+    """The key of each section of which any copy is kept, or that is kept with such a one, by number."""
     own, leads = {}, {}
     for symbol in symbols:
         number = symbol.section
@@ -123,9 +123,9 @@ def coff_groups(flags, symbols):
                 leads[number] = symbol.name
     keys = {}
     for number, (other, selection) in own.items():
-        key = leads.get(other if selection == 5 else number) if selection in (2, 5) else None
-        if key is not None:
-            keys[number] = key
+        leader = other if selection == 5 else number
+        if leader in leads and own[leader][1] == 2:
+            keys[number] = leads[leader]
     return keys
 
 

@@ -16,6 +16,10 @@ template <typename T, int N> int Stack<T, N>::made = 0;
 template <int N> struct Factorial { static const int value = N * Factorial<N - 1>::value; };
 template <> struct Factorial<0> { static const int value = 1; };
 
+/* without weak symbols a compiler gives these only where they are asked for */
+template int Stack<int, 8>::made;
+template int Stack<char, 4>::made;
+
 static Stack<int, 8> numbers;
 static Stack<char, 4> letters;
 
