@@ -1,8 +1,11 @@
 # make: proves and builds the programs; make check: the whole gate; make install PREFIX=/usr/local
 # make examples: runs the examples of docs/; make compare: times objconv beside objcopy
 # make tools: tries objconv with the tools on the machine (docs/TRIED.md)
+# make dist: packs the programs, manual pages, pages and examples in build/
 # make refuse-memory: runs jobs with each of their allocations refused in turn, with all later ones
 
+# the version, which also stands on the manual pages
+VERSION = 1.0
 PREFIX ?= /usr/local
 PROGRAMS = objconv objlink objbatch objlist
 
@@ -10,7 +13,7 @@ PROGRAMS = objconv objlink objbatch objlist
 # takes what it built. One check more than there are processors keeps them busy, as far as each check has 3 GB.
 JOBS ?= $(shell awk -v most=$$(($$(nproc) + 1)) '/^MemAvailable:/ { n = int($$2 / 3000000); print n < 1 ? 1 : n < most ? n : most }' /proc/meminfo)
 
-.PHONY: programs check examples compare tools refuse-memory install clean
+.PHONY: programs check examples compare tools refuse-memory install dist clean
 programs: $(PROGRAMS:%=build/%)
 
 # each program proves what the ones before it have not; one after another, since each uses all processors
@@ -50,6 +53,11 @@ install: programs
 		install -D build/$$program $(DESTDIR)$(PREFIX)/bin/$$program && \
 		install -D -m 644 docs/$$program.1 $(DESTDIR)$(PREFIX)/share/man/man1/$$program.1 || exit 1; \
 	done
+	install -D scripts/objlib $(DESTDIR)$(PREFIX)/bin/objlib
+	install -D -m 644 docs/objlib.1 $(DESTDIR)$(PREFIX)/share/man/man1/objlib.1
+
+dist: programs
+	scripts/dist build $(VERSION) $(PROGRAMS)
 
 clean:
 	rm -rf build
