@@ -41,9 +41,10 @@ examples: programs
 compare: build/objconv
 	bench/compare build/objconv
 
-tools: build/objconv build/objlink
+tools: build/objconv build/objlink build/objbatch
 	tools/plant-faults build/objconv build/objlink
 	tools/try-tools --seconds=1200 --table=build/tried.md build/objconv build/objlink
+	tools/try-libraries build
 
 refuse-memory: build/objconv
 	bench/refuse-memory build/objconv
