@@ -1,7 +1,7 @@
 """Libraries that are converted whole: each as an archive whose member `run.o` calls all that is to be tried.
 
-A library of C is made of tools/sources; zlib is the one that is on the machine, with a source here that calls it. What a
-program that is linked with the library and driver.c prints is known beforehand.
+A library of C is made of tools/sources; zlib is the one that is on the machine, with a source here that calls it. What
+a program that is linked with the library and driver.c prints is known beforehand.
 """
 import collections
 import os
@@ -16,7 +16,7 @@ import builds
 Library = collections.namedtuple("Library", "name form path prefix call words text")
 
 FLAGS = ["-w", "-O2", "-ffreestanding", "-fno-builtin", "-fno-stack-protector", "-fno-tree-loop-distribute-patterns"]
-# they rely on functions before main, on weak names, and on commons of a great alignment: INTEROPERABILITY has an entry for each
+# they rely on functions before main, on weak names, and on alignments of commons: INTEROPERABILITY has an entry for each
 LEFT_OUT = ("constructors.c", "weak.c", "aligned.c")
 SAMPLE = b"".join(b"%d bottles of beer, " % (n * n % 997) for n in range(2000))
 
@@ -126,3 +126,13 @@ def members(path):
     tool = shutil.which("llvm-ar") or "ar"
     listed = subprocess.run([tool, "t", path], capture_output=True, text=True, check=True).stdout
     return [re.sub(r".*/", "", it) for it in listed.splitlines()]
+
+
+def functions(path):
+    """The functions of a library, in the order of its members, by the first tool that reads it."""
+    for tool in ("llvm-nm", "nm"):
+        if shutil.which(tool):
+            done = subprocess.run([tool, path], capture_output=True, encoding="latin-1", check=False)
+            if not done.returncode:
+                return [it.split()[2] for it in done.stdout.splitlines() if re.match(r"[0-9a-f]+ T ", it)]
+    return ["none that llvm-nm or nm reads"]
