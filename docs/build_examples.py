@@ -51,7 +51,8 @@ def chapters():
 def write(chapter, folder):
     """Writes the files of a chapter and its script, and gives the texts that this prints.
 
-    A block of `sh` is of the script, one of `text` is printed; another one is the file that the sentence before it begins with.
+    A block of `sh` is of the script, one of `text` is printed; another one is the file that the sentence before it
+    begins with.
     """
     files, printed = {"run": ""}, []
     for language, body, before, *_ in blocks(chapter):

@@ -16,7 +16,7 @@ import builds
 Library = collections.namedtuple("Library", "name form path prefix call words text")
 
 FLAGS = ["-w", "-O2", "-ffreestanding", "-fno-builtin", "-fno-stack-protector", "-fno-tree-loop-distribute-patterns"]
-# they rely on functions before main, on weak names, and on alignments of commons: INTEROPERABILITY has an entry for each
+# they rely on functions before main, weak names, and alignments of commons: INTEROPERABILITY has an entry for each
 LEFT_OUT = ("constructors.c", "weak.c", "aligned.c")
 SAMPLE = b"".join(b"%d bottles of beer, " % (n * n % 997) for n in range(2000))
 
@@ -82,7 +82,8 @@ def of_sources(folder, name, form, compiler, archiver, flags):
     words = [it.removesuffix(".c") for it in sources]
     for it in words:
         own = [f"-Drun=run_{it}", f"-Dsecond=second_{it}"]
-        run([compiler, *FLAGS, *flags, *own, "-c", os.path.join(builds.SOURCES, f"{it}.c"), "-o", f"{it}.o"], cwd=folder)
+        source = os.path.join(builds.SOURCES, f"{it}.c")
+        run([compiler, *FLAGS, *flags, *own, "-c", source, "-o", f"{it}.o"], cwd=folder)
     with open(os.path.join(folder, "run.c"), "w", encoding="ascii") as file:
         file.write("".join(f"int run_{it}(void);\n" for it in words))
         file.write(f"int run(void) {{ return {' | '.join(f'run_{it}()' for it in words)}; }}\n")
@@ -94,7 +95,8 @@ def of_sources(folder, name, form, compiler, archiver, flags):
 
 def of_zlib(folder):
     """The machine's zlib with the source that calls it; none where there is none."""
-    given = subprocess.run(["gcc", "-print-file-name=libz.a"], capture_output=True, text=True, check=True).stdout.strip()
+    words = ["gcc", "-print-file-name=libz.a"]
+    given = subprocess.run(words, capture_output=True, text=True, check=True).stdout.strip()
     if not os.path.isabs(given):
         return None
     os.makedirs(folder)
@@ -112,12 +114,14 @@ def libraries(folder):
     """All that the tools on the machine make."""
     found = []
     if shutil.which("gcc") and shutil.which("ar"):
-        found.append(of_sources(os.path.join(folder, "gcc"), "sources-gcc", "elf64", "gcc", "ar", ["-fPIE", "-mabi=ms"]))
+        flags = ["-fPIE", "-mabi=ms"]
+        found.append(of_sources(os.path.join(folder, "gcc"), "sources-gcc", "elf64", "gcc", "ar", flags))
         found.append(of_zlib(os.path.join(folder, "zlib")))
     mingw = "x86_64-w64-mingw32-"
     if shutil.which(f"{mingw}gcc"):
-        found.append(of_sources(os.path.join(folder, "mingw"), "sources-mingw", "coff64", f"{mingw}gcc", f"{mingw}ar",
-                                ["-mcmodel=small", "-fno-asynchronous-unwind-tables"]))
+        flags = ["-mcmodel=small", "-fno-asynchronous-unwind-tables"]
+        path = os.path.join(folder, "mingw")
+        found.append(of_sources(path, "sources-mingw", "coff64", f"{mingw}gcc", f"{mingw}ar", flags))
     return [it for it in found if it]
 
 
