@@ -1,14 +1,17 @@
 # make: proves and builds the programs; make check: the whole gate; make install PREFIX=/usr/local
 # make examples: runs the examples of docs/; make compare: times objconv beside objcopy
 # make tools: tries objconv with the tools on the machine (docs/TRIED.md)
+# make dist: packs the programs, manual pages, pages and examples in build/
 # make refuse-memory: runs jobs with each of their allocations refused in turn, alone and with all later ones
 
+# the version, which also stands on the manual pages
+VERSION = 1.0
 PREFIX ?= /usr/local
 PROGRAMS = objconv objlink objbatch objlist
 
 SOURCES = $(shell find crates -path '*/out' -prune -o -type f -print) crates.txt scripts/build-programs
 
-.PHONY: programs check examples compare tools refuse-memory install clean
+.PHONY: programs check examples compare tools refuse-memory install dist clean
 programs: $(PROGRAMS:%=build/%)
 
 # all four come of one run (grouped targets, GNU make 4.3)
@@ -24,9 +27,10 @@ examples: programs
 compare: build/objconv
 	bench/compare build/objconv
 
-tools: build/objconv build/objlink
+tools: build/objconv build/objlink build/objbatch
 	tools/plant-faults build/objconv build/objlink
 	tools/try-tools --kept=build/tried.json --table=build/tried.md build/objconv build/objlink
+	tools/try-libraries build
 
 refuse-memory: programs
 	bench/refuse-memory build
@@ -36,6 +40,11 @@ install: programs
 		install -D build/$$program $(DESTDIR)$(PREFIX)/bin/$$program && \
 		install -D -m 644 docs/$$program.1 $(DESTDIR)$(PREFIX)/share/man/man1/$$program.1 || exit 1; \
 	done
+	install -D scripts/objlib $(DESTDIR)$(PREFIX)/bin/objlib
+	install -D -m 644 docs/objlib.1 $(DESTDIR)$(PREFIX)/share/man/man1/objlib.1
+
+dist: programs
+	scripts/dist build $(VERSION) $(PROGRAMS)
 
 clean:
 	rm -rf build
