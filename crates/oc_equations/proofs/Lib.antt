@@ -1,6 +1,7 @@
 mod FaultRows
 mod FormRows
 pub mod Equations
+pub mod FiledForms
 pub mod FinalFields
 pub mod FinalForms
 pub mod FinalKeys

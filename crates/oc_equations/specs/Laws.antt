@@ -1,12 +1,13 @@
 -- Laws: the edits step by step give what the equations say (our profile).
-use Rattle.std.specs.Prelude.{◌≡◌, Some, Ok, Err}
+use Rattle.std.specs.Prelude.{◌≡◌, List, Some, Ok, Err}
 use Rattle.oc_base.specs.{declared.fault.Fault.{Fault}, declared.format.Format.{Format}}
 use Rattle.oc_linking.specs.FirstFault.{IsFirstFault, first_fault}
+use Rattle.oc_linking.specs.Parts as parts
 use Rattle.oc_neutral.specs.{Objects.{Object}, Invariants.{IsObject}}
 use Rattle.oc_target.specs.{Fitted.{first_unfit}, Fitting.{fit_of}}
 use Rattle.oc_drop.specs.Dropping.{dropping_fault, stays}
-use Rattle.oc_names.specs.{Wishes.{Wishes}, Kept.{keep_for}, Edited.{edited}}
-use Rattle.oc_equations.specs.{Symbols.{final_symbols}, Faults.{dropping_stages, edit_stages}}
+use Rattle.oc_names.specs.{Wishes.{Wishes}, Kept.{keep_for}, Edited.{edited}, EditedFile.{edited_in}}
+use Rattle.oc_equations.specs.{Files.{final_file}, Symbols.{final_symbols}, Faults.{dropping_stages, edit_stages}}
 use Rattle.oc_equations.specs.Edited.{edited_object, edited_or_fault, refusal_after_reading, fitted_or_fault}
 
 -- the symbols of an object that was edited are the final ones
@@ -40,3 +41,8 @@ pub record IsRefusal (wishes : Wishes) (to : Format) (n : Object) : Type 0 where
 
 abbrev pub RefusalIsLeast : Type 0
 RefusalIsLeast = (wishes : Wishes) (to : Format) (n : Object) → IsObject n → IsRefusal wishes to n
+
+-- what the edits make of the symbols of a file, and of the keys of its groups, are the final ones
+abbrev pub FileIsFinal : Type 0
+FileIsFinal =
+    (wishes : Wishes) (from to : Format) (sections : List parts.Section) (symbols : List parts.Symbol) → edited_in wishes from to sections symbols ≡ final_file wishes from to sections symbols

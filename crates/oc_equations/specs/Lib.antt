@@ -2,6 +2,7 @@ pub mod Choices
 pub mod Edited
 pub mod Faults
 pub mod Fields
+pub mod Files
 pub mod Laws
 pub mod Names
 pub mod Sections

@@ -1,7 +1,7 @@
 //! Laws, for callers to cite. The functions do nothing.
 ghost use Rattle.oc_equations.specs.Laws.{DroppingFaultIsLeast, EditFaultIsLeast};
 ghost use Rattle.oc_equations.specs.Laws.{EditedIsByParts, EditedIsEquations};
-ghost use Rattle.oc_equations.specs.Laws.{RefusalIsLeast, SymbolsAreFinal};
+ghost use Rattle.oc_equations.specs.Laws.{FileIsFinal, RefusalIsLeast, SymbolsAreFinal};
 
 /// The symbols of an object that was edited are the final ones: each by its binding in the input,
 /// the options that match its name, whether its section stays, and what becomes of its fallback.
@@ -33,4 +33,9 @@ pub fn edited_is_equations()
 /// edited object; where there is none, that object is written, fitted.
 pub fn refusal_is_least()
     ensures { RefusalIsLeast }
+{}
+
+/// What the edits make of the symbols of a file, and of the keys of its groups, are the final ones.
+pub fn file_is_final()
+    ensures { FileIsFinal }
 {}

@@ -7,5 +7,5 @@ mod laws;
 
 pub use laws::{
     dropping_fault_is_least, edit_fault_is_least, edited_is_by_parts, edited_is_equations,
-    refusal_is_least, symbols_are_final,
+    file_is_final, refusal_is_least, symbols_are_final,
 };
