@@ -12,7 +12,7 @@ ROWS = ["many sections", "write", "canonical file", "read", "judge", "numbers,\n
 BOXES = [
     (0, 0, 0, ["oc_big_elf"]), (0, 1, 1, ["oc_elf_write"]), (0, 2, 2, ["oc_elf_file"]), (0, 3, 3, ["oc_elf_read"]),
     (0, 4, 4, ["oc_elf_judge"]), (0, 5, 5, ["oc_elf"]),
-    (1, 0, 1, ["oc_express", "oc_plans"]), (1, 2, 3, ["oc_names", "oc_drop", "oc_made_files"]), (1, 4, 5, ["oc_target", "oc_shows", "oc_shelf", "oc_neutral"]),
+    (1, 0, 1, ["oc_express", "oc_plans"]), (1, 2, 3, ["oc_equations", "oc_names", "oc_drop", "oc_made_files"]), (1, 4, 5, ["oc_target", "oc_shows", "oc_shelf", "oc_neutral"]),
     (2, 0, 0, ["oc_big_coff"]), (2, 1, 1, ["oc_coff_write"]), (2, 2, 2, ["oc_coff_file"]),
     (2, 3, 3, ["oc_coff_read"]), (2, 4, 4, ["oc_coff_judge"]), (2, 5, 5, ["oc_coff"]),
     (3, 1, 1, ["oc_macho_write"]), (3, 2, 2, ["oc_macho_file"]), (3, 3, 3, ["oc_macho_read"]),

@@ -3,11 +3,13 @@ use Rattle.std.proofs.Common.{◌≡◌, ℕ, List, Ok, refl, sym, ◌∙◌, ap
 use Rattle.oc_linking.specs.{declared.terms.Keep.{Keep}, Keeping.{all, keeps}, Numbers.{or_else}}
 use Rattle.oc_neutral.specs.{Objects.{Object}, Dialects.{Dialect}}
 use Rattle.oc_shows.specs.{Computed.{object_in}, Seen.{seen}}
-use Rattle.oc_target.specs.{Fitted.{IsFitted}, Fitting.{fit_of}, Targets.{WritesCanonical}}
+use Rattle.oc_target.specs.{Fitted.{IsFitted}, Targets.{WritesCanonical}}
 use Rattle.oc_target.proofs.SeenLaws.{seen_is_object_law}
 use Rattle.oc_shows.proofs.ShownComputed.{shown_is_computed}
 use Rattle.oc_names.specs.{Wishes.{no_wishes}, Edited.{edited}, Kept.{keep_for}}
-use Rattle.oc_convert.specs.{Refusals.{object_refusal, edited_refusal, kept_of_file}, Converted.{on_ok}}
+use Rattle.oc_equations.specs.Edited.{fitted_or_fault, refusal_after_reading}
+use Rattle.oc_equations.proofs.LawProofs.{refusal_is_least}
+use Rattle.oc_convert.specs.{Refusals.{kept_of_file}, Converted.{on_ok}}
 use Rattle.oc_elf.specs.{declared.class.ElfClass.{ElfClass}, Elf.{elf_dialect}}
 use Rattle.oc_elf_file.specs.Canonical.{elf_file}
 use Rattle.oc_elf_file.proofs.{CodedLaws.{for_elf}, WrittenLaw.{elf_is_written}}
@@ -43,20 +45,21 @@ module _ (g : Dialect) (canonical : Object → List ℕ) (laws : ReadsBack g can
   unedited : edited no_wishes g.format m ≡ Ok m
   unedited = nothing_edited no_wishes g.format m ready.object refl (λ k s here. ap (λ f. keeps (keep_for no_wishes f g.format) s.kind) ready.format ∙ own.kept k s here) ready.few_symbols
 
-  object : edited no_wishes g.format (object_in g c keep) ≡ Ok m
-  object = ap (edited no_wishes g.format) own.object ∙ unedited
-
   pub stable : IsStable g canonical c
-  stable = record {
-    accepted =
-        ap (λ o. or_else o (object_refusal no_wishes g.format (object_in g c keep))) own.well_formed
-        ∙ ap (edited_refusal g.format) object
-        ∙ ready.expressible;
-    planned =
-        ap (λ r. on_ok canonical (on_ok (fit_of g.format) r)) object
-        ∙ ap (λ x. Ok (canonical x)) (fitted_stays g.format m ready)
-        ∙ ap Ok (laws.file n fits);
-  }
+  stable =
+      let refusal = refusal_is_least no_wishes g.format m ready.object in
+      record {
+        accepted =
+            ap (λ o. or_else o (refusal_after_reading no_wishes g.format (object_in g c keep))) own.well_formed
+            ∙ ap (refusal_after_reading no_wishes g.format) own.object
+            ∙ refusal.target m unedited
+            ∙ ready.expressible;
+        planned =
+            ap (λ x. on_ok canonical (fitted_or_fault no_wishes g.format x)) own.object
+            ∙ ap (on_ok canonical) (refusal.written m unedited)
+            ∙ ap (λ x. Ok (canonical x)) (fitted_stays g.format m ready)
+            ∙ ap Ok (laws.file n fits);
+      }
 
 pub canonical_is_stable : CanonicalIsStable
 canonical_is_stable g canonical laws n fits = stable g canonical laws n fits

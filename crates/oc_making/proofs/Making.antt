@@ -10,7 +10,9 @@ use Rattle.oc_neutral.specs.{declared.reloc.Reloc.{Reloc}, Building.{stored_size
 use Rattle.oc_shows.specs.{Computed.{object_in}, Seen.{seen}}
 use Rattle.oc_target.specs.Fitted.{IsFitted}
 use Rattle.oc_names.specs.{Wishes.{no_wishes}, Edited.{edited}, Kept.{keep_for}}
-use Rattle.oc_convert.specs.Refusals.{first_refusal, object_refusal, edited_refusal, kept_of_file}
+use Rattle.oc_equations.specs.Edited.{refusal_after_reading}
+use Rattle.oc_equations.proofs.LawProofs.{refusal_is_least}
+use Rattle.oc_convert.specs.Refusals.{first_refusal, kept_of_file}
 use Rattle.oc_convert.specs.Dispatched.{dispatch_refusal, refusal_from, header_refusal}
 use Rattle.oc_built.specs.Built.{built, reader_of}
 use Rattle.oc_canonical.proofs.FirstBytes.{elf_known}
@@ -54,9 +56,9 @@ module _ (to : Format) (count : ℕ) (many : is_many to ≡ false) (few : count 
 
   accepted : first_refusal no_wishes (elf_dialect class) to b ≡ None
   accepted =
-      ap (λ o. or_else o (object_refusal no_wishes to (object_in (elf_dialect class) b keep))) (elf_good class n fits keep kept_seen)
-      ∙ ap (object_refusal no_wishes to) object
-      ∙ ap (edited_refusal to) unedited
+      ap (λ o. or_else o (refusal_after_reading no_wishes to (object_in (elf_dialect class) b keep))) (elf_good class n fits keep kept_seen)
+      ∙ ap (refusal_after_reading no_wishes to) object
+      ∙ (refusal_is_least no_wishes to n fits.object).target n unedited
       ∙ made_is_expressible to count many few
 
   all_accepted : dispatch_refusal built no_wishes to (made_bytes count (word_for to)) ≡ None

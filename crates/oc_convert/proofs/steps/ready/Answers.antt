@@ -4,9 +4,9 @@ use Rattle.oc_base.specs.{Formats.{word_for}, Stops.{IsStop}}
 use Rattle.oc_neutral.specs.{Objects.{Object}, Dialects.{Dialect}}
 use Rattle.oc_shows.specs.Shows.{Shows}
 use Rattle.oc_target.specs.Fitted.{first_unfit}
-use Rattle.oc_names.specs.{Wishes.{Wishes}, Edited.{edited}, Kept.{keep_for}}
+use Rattle.oc_names.specs.{Wishes.{Wishes}, Kept.{keep_for}}
 use Rattle.oc_convert.specs.Refusals.{kept_of_file, first_refusal}
-use Rattle.oc_convert.proofs.{Firsts.{edit_stands, refused_by_object, refused_by_edited}, Ready.{can_fit, if_ready}}
+use Rattle.oc_convert.proofs.{Firsts.{edit_stands, refused_by_edited}, Ready.{can_fit, if_ready}}
 use Rattle.oc_convert.proofs.steps.ready.Goals as goal
 
 -- src/steps.rt:105:19
@@ -20,8 +20,7 @@ returns-in_err-neutral-2-clause-refused g c =
     let good = subst (λ k. f.rules.fault c.args.bytes.now k ≡ None) keep c.in_ok-neutral.ensures.well_formed in
     let e = c.in_err-neutral-2.field-0.0 in
     let p = err_from_is_err_and c.from_residual-in_err-neutral-2.result c.from_residual-in_err-neutral-2.ensures.1 in
-    rw (p.1, p.2) (subst (λ o. IsStop o e) (sym (refused_by_object wishes f c.args.to c.args.bytes.now n c.in_ok-neutral.ensures.object shows good))
-    (edit_stands c.args.to (edited wishes c.args.to n) e c.in_err-neutral-2.ensures.refused))
+    rw (p.1, p.2) (edit_stands wishes f c.args.to c.args.bytes.now n c.in_ok-neutral.ensures.object shows good e c.in_err-neutral-2.ensures.refused)
 
 -- src/steps.rt:106:5
 pub fit-requires : goal.fit-requires
