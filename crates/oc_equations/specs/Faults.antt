@@ -9,8 +9,8 @@ use Rattle.oc_linking.specs.FirstFault.{Condition, Stage}
 use Rattle.oc_algebra.specs.Residues.{residue_of}
 use Rattle.oc_chains.specs.{declared.field.Field.{Field}, Lists.{list_of}}
 use Rattle.oc_neutral.specs.{declared.group.Group.{Group}, declared.section.Section.{Section}, declared.symbol.Symbol.{Symbol}, declared.reloc.Reloc.{Reloc}, Objects.{Object}, Faces.{number_of}}
-use Rattle.oc_neutral.specs.Without.{lies_in_dropped, refers_to_dropped}
 use Rattle.oc_names.specs.{declared.edit.Edit.{Edit}, Wishes.{Wishes}}
+use Rattle.oc_equations.specs.Going.{goes_with, refers_gone}
 use Rattle.oc_equations.specs.{Symbols.{asks_weak, form_by, fallback_form, kept, final_symbols}, Fields.{constant}, Sections.{kept_sections, final_sections, final_groups}}
 
 -- ... words
@@ -81,11 +81,11 @@ module _ (wishes : Wishes) (to : Format) (n : Object) where
 
   -- a nonlocal symbol lies in a section that is not kept
   abbrev pub lies_nowhere : Symbol → Condition
-  lies_nowhere s = (not (is_local s.binding) && lies_in_dropped (kept wishes to n) s, fault_about s.number SymbolInDropped 0)
+  lies_nowhere s = (not (is_local s.binding) && goes_with (kept wishes to n) s.binding, fault_about s.number SymbolInDropped 0)
 
   -- a field of a section that is kept refers to one that is not; the place is its offset
   abbrev pub refers_nowhere : Section → Field Reloc → Condition
-  refers_nowhere s x = (refers_to_dropped (kept wishes to n) x.item, fault_about s.number RelocToDropped x.at)
+  refers_nowhere s x = (refers_gone (kept wishes to n) x.item, fault_about s.number RelocToDropped x.at)
 
   -- the option at a position asks that a symbol is weak that is pinned, and Global after the options before
   abbrev pub weakens_pinned : ℕ × Edit → Symbol → Condition

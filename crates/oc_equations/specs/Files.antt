@@ -1,15 +1,14 @@
 -- The final form of the symbols of a file, and of the keys of its groups (our profile). They name the sections that the file carries by their positions, and
 -- a fallback by its number; else the table is that of an object.
 use Rattle.std.specs.Prelude.{ℕ, Bool, false, not, ◌&&◌, nat_eq, bytes_eq, if◌then◌else◌, List, ◌++◌, map, slice_get, filter, filter_map, Option, None}
-use Rattle.std.specs.{Option.{option_map, option_map_or}, List.{list_any, flat_map}}
+use Rattle.std.specs.{Option.{option_map}, List.{list_any, flat_map}}
 use Rattle.oc_base.specs.declared.format.Format.{Format}
 use Rattle.oc_linking.specs.declared.terms.Fallback.TheVariants as fallback
 use Rattle.oc_linking.specs.{declared.terms.Binding.{Binding}, declared.terms.Binding.TheVariants.{Local, Global, Undefined, Common, Weak}}
 use Rattle.oc_linking.specs.Keeping.{kept_flags, kept_of}
 use Rattle.oc_linking.specs.Parts as parts
-use Rattle.oc_neutral.specs.Without.{binding_section, is_dropped}
 use Rattle.oc_names.specs.{declared.edit.Edit.{Edit}, Wishes.{Wishes}}
-use Rattle.oc_equations.specs.{Choices.{kept_kinds}, Names.{final_name, further_name}, Symbols.{form_by, may_have_more}}
+use Rattle.oc_equations.specs.{Choices.{kept_kinds}, Going.{goes_with}, Names.{final_name, further_name}, Symbols.{form_by, may_have_more}}
 
 -- a symbol of a file with this name and binding, and pinned or not
 abbrev pub part_as : parts.Symbol → List ℕ → Binding → Bool → parts.Symbol
@@ -18,7 +17,7 @@ part_as s name b pinned = record { name = name; binding = b; mark = s.mark; vis 
 module _ (wishes : Wishes) (from to : Format) (sections : List parts.Section) (symbols : List parts.Symbol) where
   -- the symbol lies in a section that is not kept
   abbrev pub is_gone : parts.Symbol → Bool
-  is_gone s = option_map_or (is_dropped (kept_flags (kept_kinds wishes from to) sections)) (binding_section s.binding) false
+  is_gone s = goes_with (kept_flags (kept_kinds wishes from to) sections) s.binding
 
   -- the symbols that stay
   abbrev pub filed_staying : List parts.Symbol

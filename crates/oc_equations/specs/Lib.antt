@@ -3,6 +3,7 @@ pub mod Edited
 pub mod Faults
 pub mod Fields
 pub mod Files
+pub mod Going
 pub mod Laws
 pub mod Names
 pub mod Sections

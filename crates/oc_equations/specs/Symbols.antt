@@ -1,17 +1,17 @@
 -- The final form of each symbol (our profile): by its binding in the input, by the options that match its name, by whether its section stays, and
 -- by what becomes of its fallback.
-use Rattle.std.specs.Prelude.{ℕ, Bool, true, false, bytes_eq, if◌then◌else◌, List, ◌++◌, map, slice_get, filter_map, Option, Some, None}
+use Rattle.std.specs.Prelude.{ℕ, Bool, true, false, not, bytes_eq, if◌then◌else◌, List, ◌++◌, map, slice_get, filter_map, Option, Some, None}
 use Rattle.std.specs.{Option.{option_map}, List.{list_any, flat_map}}
 use Rattle.oc_base.specs.declared.format.Format.{Format}
 use Rattle.oc_linking.specs.{declared.terms.Fallback.{Fallback}, declared.terms.Binding.{Binding}}
 use Rattle.oc_linking.specs.{declared.terms.Binding.TheVariants.{Local, Global, Undefined, Common, Weak}, Keeping.{keeps, kept_of}, Parts.{is_local}}
 use Rattle.oc_linking.specs.declared.terms.Value.TheVariants as value
 use Rattle.oc_linking.specs.declared.terms.Fallback.TheVariants as fallback
-use Rattle.oc_neutral.specs.{declared.section.Section.{Section}, declared.symbol.Symbol.{Symbol}, Objects.{Object}, Without.{symbols_stay, moved_binding}}
+use Rattle.oc_neutral.specs.{declared.section.Section.{Section}, declared.symbol.Symbol.{Symbol}, Objects.{Object}, Without.{moved_binding}}
 use Rattle.oc_names.specs.declared.edit.Edit.{Edit}
 use Rattle.oc_names.specs.declared.edit.Edit.TheVariants.{Rename, Prefix, Suffix, Alias, AliasPrefix, AliasSuffix, Weaken, MakeLocal, Underscore}
 use Rattle.oc_names.specs.Wishes.{Wishes}
-use Rattle.oc_equations.specs.{Choices.{kept_kinds}, Names.{final_name, further_name}}
+use Rattle.oc_equations.specs.{Choices.{kept_kinds}, Going.{goes_with}, Names.{final_name, further_name}}
 
 -- ... which options match
 
@@ -113,7 +113,7 @@ module _ (wishes : Wishes) (to : Format) (n : Object) where
 
   -- of each symbol, whether it stays: one goes with the section in which it lies
   abbrev pub staying : List Bool
-  staying = symbols_stay kept n.symbols
+  staying = map (λ (s : Symbol). not (goes_with kept s.binding)) n.symbols
 
   -- the symbols of the input that stay
   abbrev pub those_staying : List Symbol
