@@ -21,6 +21,8 @@ RULES = [
     Rule("an address of four bytes", r"", r"mac64$", "ld64.lld", r"^(ld64\.lld\S* error: relocation UNSIGNED is out of range[^\n]*\n?)+$"),
     Rule("a weak name that nothing defines", r"^(weak\.c|elf_groups)", r"mac64$", "ld64.lld", r"^ld64\.lld\S* error: undefined symbol: _?(absent|maybe)"),
     Rule("Functions that run before and after main", r"^(constructors\.c|locals\.cpp)-(clang-)?mingw", r"^coff\d\d-", r"", r"printed '(before 0|made 0)\\n"),
+    Rule("Functions that run before and after main", r"^constructors\.c-(clang-)?mingw", r"^coff\d\d-(\w+-)*elf\d\d$", r"GNU ld|ld\.lld",
+         r"^status 0, printed 'before 12\\nrun 1\\n'$"),
     Rule("an address in read-only data", r"", r"^(coff|mac)\w+-(\w+-)*elf64$", "PIE",
          r"DT_TEXTREL|cannot be used against|recompile with -fPI|^status -11, printed "),
     Rule("names of C++ by MSVC", r"\.cpp-clang-msvc", r"^coff\d\d-(\w+-)*elf\d\d$", r"GNU ld|ld\.lld", r"multiple definition of|duplicate symbol|version"),
