@@ -4,7 +4,8 @@ use Rattle.std.specs.{Prelude.{slice_get, filter_map}, Option.{option_and_then}}
 use Rattle.oc_base.specs.{declared.fault.Fault.{Fault}, declared.format.Format.{Format}, Formats.{word_for}}
 use Rattle.oc_linking.specs.{Numbers.{or_else}, FirstFault.{first_fault, stage_fault}}
 use Rattle.oc_chains.specs.{declared.field.Field.{Field}}
-use Rattle.oc_neutral.specs.{declared.group.Group.{Group}, declared.section.Section.{Section}, declared.symbol.Symbol.{Symbol}, declared.reloc.Reloc.{Reloc}, Objects.{Object}}
+use Rattle.oc_neutral.specs.{declared.group.Group.{Group}, declared.section.Section.{Section}, declared.symbol.Symbol.{Symbol}, declared.reloc.Reloc.{Reloc}}
+use Rattle.oc_neutral.specs.Objects.{Object}
 use Rattle.oc_neutral.specs.{Invariants.{IsObject}, Without.{IsDetached}}
 use Rattle.oc_drop.specs.{Steps.{first_field, then_by, unless}, Dropping.{dropped_reference, dropping_fault, left, stays}}
 use Rattle.oc_drop.proofs.{Detached.{detached}, DroppedSections.{map_same}}

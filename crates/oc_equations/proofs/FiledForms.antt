@@ -1,5 +1,6 @@
 -- What the edits, step by step, make of the symbols of a file is their final forms.
-use Rattle.std.proofs.Common.{◌≡◌, ℕ, Bool, true, false, not, ◌&&◌, cond, eqb, List, [], ◌∷◌, ◌++◌, map, bytes_eq, Option, Some, None, inl, inr, refl, sym, ◌∙◌, ap, arith}
+use Rattle.std.proofs.Common.{◌≡◌, ℕ, Bool, true, false, not, ◌&&◌, cond, eqb, List, [], ◌∷◌, ◌++◌, map, bytes_eq, Option, Some, None, inl, inr, refl, sym, ◌∙◌}
+use Rattle.std.proofs.Common.{ap, arith}
 use mathlib.Core.Path.{fun_ext}
 use Rattle.std.specs.{Prelude.{slice_get, filter, filter_map}, List.{cons_option, flat_map, list_any}, Option.{option_map, option_map_or}}
 use Rattle.oc_base.specs.declared.format.Format.{Format}

@@ -1,5 +1,6 @@
 -- What the edits leave of a field is what the equations say of it.
-use Rattle.std.proofs.Common.{◌≡◌, ℕ, ◌<◌, Bool, true, false, not, ◌||◌, cond, eqb, List, length, map, get_or, Option, Some, None, refl, sym, ◌∙◌, ap, subst, arith}
+use Rattle.std.proofs.Common.{◌≡◌, ℕ, ◌<◌, Bool, true, false, not, ◌||◌, cond, eqb, List, length, map, get_or, Option, Some, None, refl, sym, ◌∙◌, ap, subst}
+use Rattle.std.proofs.Common.{arith}
 use Rattle.std.specs.{Prelude.{slice_get}, List.{list_any}, Option.{option_map, option_map_or, option_and_then}}
 use Rattle.std.proofs.lemmas.{Bool.{true≢false, not-false, eq-eqb, ne_eqb, eqb-true}, List.{length-map}}
 use Rattle.std.proofs.lemmas.Option.{none-some, same_Some, get_or_from_slice_get, slice_get-map, slice_get_within}
@@ -15,14 +16,16 @@ use Rattle.oc_neutral.specs.{declared.symbol.Symbol.{Symbol}, declared.reloc.Tar
 use Rattle.oc_neutral.specs.{declared.normal.Normal.{Normal}, Objects.{Object}}
 use Rattle.oc_neutral.specs.Normal.{Place, at_section, by_place, by_section, cancels, folded, local_place, moved_addend, normal_of, place_among, takes_section}
 use Rattle.oc_neutral.specs.Invariants.{IsBinding, IsLessThere, IsNormal, IsObject, IsSymbol, IsThere}
-use Rattle.oc_neutral.specs.Without.{IsDetached, binding_section, is_dropped, lies_in_dropped, moved_binding, moved_less, moved_reloc, moved_target, new_position, refers_to_dropped, takes_dropped, targets_dropped}
+use Rattle.oc_neutral.specs.Without.{IsDetached, binding_section, is_dropped, lies_in_dropped, moved_binding, moved_less, moved_reloc, moved_target}
+use Rattle.oc_neutral.specs.Without.{new_position, refers_to_dropped, takes_dropped, targets_dropped}
 use Rattle.oc_neutral.specs.declared.reloc.Target.TheVariants as target
 use Rattle.oc_neutral.specs.declared.normal.Normal.TheVariants as normal
 use Rattle.oc_neutral.proofs.{Positions.{each_at, there_at}, KeptLists.{Stays, kept_there, one_position}}
 use Rattle.oc_neutral.proofs.{LeftParts.{left_object}, NormalLemmas.{place_among-there}}
 use Rattle.oc_drop.proofs.DroppedSymbols.{nonlocal-clear}
 use Rattle.oc_names.specs.Wishes.{Wishes}
-use Rattle.oc_equations.specs.{Symbols.{asks_local, asks_weak, fallback_form, final_form, form, kept, staying}, Fields.{constant, final_place, final_reloc, final_target, final_addend}}
+use Rattle.oc_equations.specs.Symbols.{asks_local, asks_weak, fallback_form, final_form, form, kept, staying}
+use Rattle.oc_equations.specs.Fields.{constant, final_place, final_reloc, final_target, final_addend}
 use Rattle.oc_equations.proofs.FinalForms.{formed}
 
 -- the place of a Local that took its form: it lay there before

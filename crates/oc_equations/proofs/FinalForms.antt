@@ -1,5 +1,6 @@
 -- The symbols of an object that stay, after all words and with settled fallbacks, have their final forms; and the faults on the way are the conditions.
-use Rattle.std.proofs.Common.{◌≡◌, ℕ, zero, suc, ◌+◌, Bool, true, false, not, ◌&&◌, cond, List, [], ◌∷◌, ◌++◌, length, map, take, append_assoc, Option, Some, None, inl, inr, refl, sym, ◌∙◌, ap, subst, arith}
+use Rattle.std.proofs.Common.{◌≡◌, ℕ, zero, suc, ◌+◌, Bool, true, false, not, ◌&&◌, cond, List, [], ◌∷◌, ◌++◌, length, map, take, append_assoc, Option, Some}
+use Rattle.std.proofs.Common.{None, inl, inr, refl, sym, ◌∙◌, ap, subst, arith}
 use Rattle.std.specs.{Prelude.{slice_get}, List.{AllByRecursion, list_any, enumerate_from}, Option.{option_map, option_map_or, option_and_then}}
 use Rattle.std.proofs.lemmas.{Bool.{true≢false}, Option.{same_Some, slice_get-map}}
 use Rattle.oc_base.specs.{declared.code.Code.TheVariants.{PinnedWeak, TargetKind}, declared.fault.Fault.{Fault}}
@@ -12,7 +13,8 @@ use Rattle.oc_neutral.proofs.{Positions.{each_at}, KeptLists.{all_kept}, LeftPar
 use Rattle.oc_drop.specs.Steps.{first_in, symbol_fault}
 use Rattle.oc_drop.proofs.{DroppedSections.{map_same, map_twice}, DroppedSymbols.{nonlocal-clear}}
 use Rattle.oc_names.specs.declared.edit.Edit.{Edit}
-use Rattle.oc_names.specs.Rebinding.{bindings_of, fallback_binding, fallback_code, fallback_fault, is_global, pinned_fault, placed_fallback, rebound, settled, settled_binding}
+use Rattle.oc_names.specs.Rebinding.{bindings_of, fallback_binding, fallback_code, fallback_fault, is_global, pinned_fault, placed_fallback, rebound, settled}
+use Rattle.oc_names.specs.Rebinding.{settled_binding}
 use Rattle.oc_names.specs.EditedFile.{after_all}
 use Rattle.oc_names.proofs.TurnsBindings.{own_free, own_settled, stands_for, stands_or_not}
 use Rattle.oc_names.proofs.TurnsWords.{words_fault}
@@ -21,7 +23,8 @@ use Rattle.oc_equations.specs.Faults as faults
 use Rattle.oc_equations.specs.Faults.{each_of, fault_about}
 use Rattle.oc_equations.proofs.Firsts.{broken_map, first_map, first_same, stage_in}
 use Rattle.oc_equations.proofs.KeptItems.{first_of_kept}
-use Rattle.oc_equations.proofs.Forms.{after_is, after_more, code_moved, fallback_none, form_local, form_moved, global_moved, placed_moved, standing_moved, weakened_is}
+use Rattle.oc_equations.proofs.Forms.{after_is, after_more, code_moved, fallback_none, form_local, form_moved, global_moved, placed_moved, standing_moved}
+use Rattle.oc_equations.proofs.Forms.{weakened_is}
 
 -- ... words, one after another, over any symbols
 

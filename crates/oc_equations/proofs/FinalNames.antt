@@ -1,18 +1,23 @@
 -- The names, further symbols and keys that the edits give, step by step, are the final ones.
-use Rattle.std.proofs.Common.{◌≡◌, ℕ, suc, ◌+◌, Bool, true, false, not, ◌&&◌, ◌||◌, cond, List, [], ◌∷◌, ◌++◌, length, length-append, map, bytes_eq, nat_eq, Option, Some, None, refl, sym, ◌∙◌, ap, arith}
-use Rattle.std.specs.{Prelude.{slice_get, filter_map}, List.{cons_option, enumerate_from, flat_map, list_any}, Option.{is_some, option_flatten, option_map, option_map_or, option_and_then, unwrap_or}}
+use Rattle.std.proofs.Common.{◌≡◌, ℕ, suc, ◌+◌, Bool, true, false, not, ◌&&◌, ◌||◌, cond, List, [], ◌∷◌, ◌++◌, length, length-append, map, bytes_eq, nat_eq}
+use Rattle.std.proofs.Common.{Option, Some, None, refl, sym, ◌∙◌, ap, arith}
+use Rattle.std.specs.{Prelude.{slice_get, filter_map}, List.{cons_option, enumerate_from, flat_map, list_any}}
+use Rattle.std.specs.Option.{is_some, option_flatten, option_map, option_map_or, option_and_then, unwrap_or}
 use Rattle.std.proofs.lemmas.{List.{length-map}, Option.{slice_get-map}}
 use Rattle.oc_base.specs.{declared.code.Code.TheVariants.{NameClash, EmptyName}, declared.fault.Fault.{Fault}, declared.format.Format.{Format}}
 use Rattle.oc_linking.specs.{declared.terms.Binding.{Binding}}
 use Rattle.oc_linking.specs.{Numbers.{or_else}, FirstFault.{first_broken, stage_fault}, Keeping.{kept_of}, Parts.{is_local}}
-use Rattle.oc_neutral.specs.{declared.group.Group.{Group}, declared.symbol.Symbol.{Symbol}, Objects.{Object}, Building.{has_name}, Faces.{number_of}, Invariants.{IsObject}}
+use Rattle.oc_neutral.specs.{declared.group.Group.{Group}, declared.symbol.Symbol.{Symbol}, Objects.{Object}, Building.{has_name}, Faces.{number_of}}
+use Rattle.oc_neutral.specs.Invariants.{IsObject}
 use Rattle.oc_neutral.specs.Without.{IsDetached, moved_binding}
 use Rattle.oc_strings.specs.{Repeats.{NameList, name_at, nonlocal_name, place_of}}
 use Rattle.oc_drop.proofs.DroppedSections.{map_same, map_twice}
 use Rattle.oc_names.specs.{declared.edit.Edit.{Edit}, Wishes.{Wishes}}
 use Rattle.oc_names.specs.NewNames as given
-use Rattle.oc_names.specs.Naming.{alias, alias_of, aliases, all_named, clash_fault, count_fault, count_named, edited_group, empty_fault, group_by, is_definition, name_fault_at, named, names_fault, nonlocal_names, with_name}
-use Rattle.oc_equations.specs.{Names.{final_name, further_name, new_name}, Sections.{final_key, is_key_of}, Symbols.{asks_local, asks_weak, fallback_form, final_form, final_symbol, final_symbols, further_symbol, kept, may_have_more, staying, symbol_as}}
+use Rattle.oc_names.specs.Naming.{alias, alias_of, aliases, all_named, clash_fault, count_fault, count_named, edited_group, empty_fault, group_by}
+use Rattle.oc_names.specs.Naming.{is_definition, name_fault_at, named, names_fault, nonlocal_names, with_name}
+use Rattle.oc_equations.specs.{Names.{final_name, further_name, new_name}, Sections.{final_key, is_key_of}}
+use Rattle.oc_equations.specs.Symbols.{asks_local, asks_weak, fallback_form, final_form, final_symbol, final_symbols, further_symbol, kept, may_have_more, staying, symbol_as}
 use Rattle.oc_equations.specs.Faults.{are_too_many, each_of, fault_about, first_called, has_used_name, is_called, is_nameless}
 use Rattle.oc_equations.proofs.Firsts.{first_filtered, or_none, stage_in, upto_numbered, upto_position}
 use Rattle.oc_equations.proofs.Forms.{form_local, local_moved}

@@ -1,9 +1,11 @@
 -- The parts of an object that is brought to normal form under the final symbols are those of the equations; and the faults of fields are the conditions.
-use Rattle.std.proofs.Common.{◌≡◌, ℕ, zero, suc, ◌+◌, Bool, true, false, not, ◌&&◌, cond, List, [], ◌∷◌, length, map, fold, Option, Some, None, Ok, Err, refl, sym, ◌∙◌, ap, subst, arith}
+use Rattle.std.proofs.Common.{◌≡◌, ℕ, zero, suc, ◌+◌, Bool, true, false, not, ◌&&◌, cond, List, [], ◌∷◌, length, map, fold, Option, Some, None, Ok, Err, refl}
+use Rattle.std.proofs.Common.{sym, ◌∙◌, ap, subst, arith}
 use mathlib.Core.Path.{fun_ext}
 use Rattle.std.specs.{Prelude.{slice_get, filter_map, nat_eq, ℤ}, List.{cons_option, enumerate_from}, Option.{option_map, option_map_or, option_and_then}}
 use Rattle.std.proofs.lemmas.{Bool.{eqb-true}, List.{length-map}, Option.{none-some, slice_get-map, slice_get_within, get_or_from_slice_get}}
-use Rattle.oc_base.specs.{declared.code.Code.TheVariants.{FoldTooWide, RelocToDropped}, declared.fault.Fault.{Fault}, declared.format.Format.{Format}, declared.format.Word.{Word}, Formats.{word_for}}
+use Rattle.oc_base.specs.{declared.code.Code.TheVariants.{FoldTooWide, RelocToDropped}, declared.fault.Fault.{Fault}, declared.format.Format.{Format}}
+use Rattle.oc_base.specs.{declared.format.Word.{Word}, Formats.{word_for}}
 use Rattle.oc_linking.specs.{declared.terms.Patch.{Patch}, Fits.{fits}, Images.{overlay}, Keeping.{kept_of}}
 use Rattle.oc_linking.specs.FirstFault.{first_broken, stage_fault}
 use Rattle.oc_algebra.specs.{Fields.{too_wide}, Folds.{low_of, fold_of}, Residues.{residue_of}}

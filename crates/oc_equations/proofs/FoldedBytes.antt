@@ -4,7 +4,8 @@ use Rattle.std.specs.{Prelude.{slice_get, ℤ}, List.{AllByRecursion}, Option.{o
 use Rattle.std.proofs.lemmas.{Grind.{same_number_lists}, Option.{none-some, same_Some}}
 use Rattle.oc_base.specs.{declared.format.Word.{Word}, Formats.{word_for}}
 use Rattle.oc_linking.specs.{declared.terms.Patch.{Patch}, Fits.{bytes_of, fits}, Images.{byte_by, byte_upto, overlay}}
-use Rattle.oc_linking.proofs.{Apart.{byte_from}, FirstFaultLaws.{first_upto_none}, Overlay.{length-overlay}, Storing.{byte_of_image, byte_of_field, few}, Upto.{first_upto_from}}
+use Rattle.oc_linking.proofs.{Apart.{byte_from}, FirstFaultLaws.{first_upto_none}, Overlay.{length-overlay}, Storing.{byte_of_image, byte_of_field, few}}
+use Rattle.oc_linking.proofs.Upto.{first_upto_from}
 use Rattle.oc_algebra.specs.{Folds.{low_of, fold_of}, Residues.{residue_of}}
 use Rattle.oc_algebra.proofs.FoldLaws.{low_of-byte}
 use Rattle.oc_chains.specs.{declared.field.Field.{Field}, Lists.{list_of}}
@@ -16,7 +17,8 @@ use Rattle.oc_shows.proofs.Blank.{found_field}
 use Rattle.oc_drop.specs.Steps.{first_field}
 use Rattle.oc_drop.proofs.FirstLaws.{none_of_section}
 use Rattle.oc_names.specs.Rebinding.{unfit_fault}
-use Rattle.oc_names.proofs.{NormalFields.{IsFrame, IsWide, folded_in, frame_fold}, ReboundFields.{constant_stands, others_stay}, ReboundConstants.{fitting, stored_of}}
+use Rattle.oc_names.proofs.{NormalFields.{IsFrame, IsWide, folded_in, frame_fold}, ReboundFields.{constant_stands, others_stay}}
+use Rattle.oc_names.proofs.ReboundConstants.{fitting, stored_of}
 
 -- the constant that a relocation came to be
 abbrev pub patch_by : Word → Reloc → Normal → Option Patch

@@ -1,5 +1,6 @@
 -- The groups that are begun one after another are those of the list, each once.
-use Rattle.std.proofs.Common.{◌≡◌, ℕ, ◌+◌, Bool, true, false, not, ◌&&◌, ◌||◌, cond, List, [], ◌∷◌, ◌++◌, append-nil, append_assoc, Option, Some, None, refl, sym, ◌∙◌, ap, arith}
+use Rattle.std.proofs.Common.{◌≡◌, ℕ, ◌+◌, Bool, true, false, not, ◌&&◌, ◌||◌, cond, List, [], ◌∷◌, ◌++◌, append-nil, append_assoc, Option, Some, None, refl}
+use Rattle.std.proofs.Common.{sym, ◌∙◌, ap, arith}
 use Rattle.std.specs.{Prelude.{nat_eq, filter}, List.{position_from}, Option.{is_some}}
 use Rattle.std.proofs.lemmas.Bool.{eqb-true}
 use Rattle.oc_neutral.specs.Without.{begun_by, place_in}

@@ -1,17 +1,22 @@
 -- The conditions of the Edit phase, in their order (our profile): each is judged on the symbols and fields of the input and on the list of options.
 use Rattle.std.specs.Prelude.{ℕ, Bool, true, false, not, ◌&&◌, nat_eq, nat_lt, bytes_eq, List, [], ◌∷◌, length, map, take, filter, slice_get, Option, None}
 use Rattle.std.specs.{Option.{is_some, option_map_or}, List.{enumerate_from, position_from}}
-use Rattle.oc_base.specs.{declared.code.Code.{Code}, declared.fault.Phase.TheVariants.{Edit as EditPhase}, declared.fault.Fault.{Fault}, declared.format.Format.{Format}, Formats.{word_for}}
-use Rattle.oc_base.specs.declared.code.Code.TheVariants.{SymbolInDropped, RelocToDropped, PinnedWeak, TargetKind, FoldTooWide, LimitSymbols, EmptyName, NameClash}
+use Rattle.oc_base.specs.{declared.code.Code.{Code}, declared.fault.Phase.TheVariants.{Edit as EditPhase}, declared.fault.Fault.{Fault}}
+use Rattle.oc_base.specs.{declared.format.Format.{Format}, Formats.{word_for}}
+use Rattle.oc_base.specs.declared.code.Code.TheVariants.{SymbolInDropped, RelocToDropped, PinnedWeak, TargetKind, FoldTooWide, LimitSymbols, EmptyName}
+use Rattle.oc_base.specs.declared.code.Code.TheVariants.{NameClash}
 use Rattle.oc_linking.specs.declared.terms.Value.TheVariants as value
-use Rattle.oc_linking.specs.{declared.terms.Binding.{Binding}, declared.terms.Binding.TheVariants.{Local, Global, Undefined, Common, Weak}, Parts.{is_local}, Fits.{fits}}
+use Rattle.oc_linking.specs.{declared.terms.Binding.{Binding}, declared.terms.Binding.TheVariants.{Local, Global, Undefined, Common, Weak}, Parts.{is_local}}
+use Rattle.oc_linking.specs.Fits.{fits}
 use Rattle.oc_linking.specs.FirstFault.{Condition, Stage}
 use Rattle.oc_algebra.specs.Residues.{residue_of}
 use Rattle.oc_chains.specs.{declared.field.Field.{Field}, Lists.{list_of}}
-use Rattle.oc_neutral.specs.{declared.group.Group.{Group}, declared.section.Section.{Section}, declared.symbol.Symbol.{Symbol}, declared.reloc.Reloc.{Reloc}, Objects.{Object}, Faces.{number_of}}
+use Rattle.oc_neutral.specs.{declared.group.Group.{Group}, declared.section.Section.{Section}, declared.symbol.Symbol.{Symbol}, declared.reloc.Reloc.{Reloc}}
+use Rattle.oc_neutral.specs.{Objects.{Object}, Faces.{number_of}}
 use Rattle.oc_names.specs.{declared.edit.Edit.{Edit}, Wishes.{Wishes}}
 use Rattle.oc_equations.specs.Going.{goes_with, refers_gone}
-use Rattle.oc_equations.specs.{Symbols.{asks_weak, form_by, fallback_form, kept, final_symbols}, Fields.{constant}, Sections.{kept_sections, final_sections, final_groups}}
+use Rattle.oc_equations.specs.{Symbols.{asks_weak, form_by, fallback_form, kept, final_symbols}, Fields.{constant}}
+use Rattle.oc_equations.specs.Sections.{kept_sections, final_sections, final_groups}
 
 -- ... words
 

@@ -1,5 +1,6 @@
 -- The names that the options give (our profile). They go by the names of the input, byte for byte.
-use Rattle.std.specs.Prelude.{ℕ, ◌-◌, Bool, true, false, nat_eq, bytes_eq, if◌then◌else◌, List, ◌++◌, codes, length, take, drop, slice_get, filter_map, Option, Some, None}
+use Rattle.std.specs.Prelude.{ℕ, ◌-◌, Bool, true, false, nat_eq, bytes_eq, if◌then◌else◌, List, ◌++◌, codes, length, take, drop, slice_get, filter_map, Option}
+use Rattle.std.specs.Prelude.{Some, None}
 use Rattle.std.specs.{Option.{unwrap_or}, List.{list_any, starts_with, ends_with}}
 use Rattle.oc_base.specs.declared.format.Format.{Format}
 use Rattle.oc_base.specs.declared.format.Format.TheVariants.{Elf32, Elf64, Coff32, Coff64, Mac32, Mac64, Omf, BigElf32, BigElf64, BigCoff32, BigCoff64}
