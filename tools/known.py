@@ -14,7 +14,7 @@ Rule = collections.namedtuple("Rule", "name build formats way said")
 
 RULES = [
     Rule("a weak function or variable", r"^(weak\.c|elf_groups)", r"coff\d\d$", "mingw's ld", r"status|undefined reference"),
-    Rule("a weak function or variable", r"^\w+\.cpp-clang-apple", r"^mac\d\d-(\w+-)*coff\d\d$", "mingw's ld", r"^status 5, printed ''$|undefined reference"),
+    Rule("a weak function or variable", r"^\w+\.cpp-clang-apple", r"^mac\d\d-(\w+-)*coff\d\d$", "mingw's ld", r"^status [05], printed ''$|undefined reference"),
     Rule("destructors (`.fini_array`)", r"^constructors\.c", r"coff\d\d$", "mingw's ld", r"^status 0, printed 'before 12\\nrun 1\\n'$"),
     Rule("a common with an alignment, by mingw's gcc", r"^aligned\.c-(clang-)?mingw", r"^coff\d\d-.*", r"GNU ld|ld\.lld|mingw's ld|lld-link",
          r"^status 0, printed 'line 0\\npage 0\\nzeros \d+\\nconstant 0\\ncode 0\\n'$"),
