@@ -1,0 +1,2 @@
+mod HintRows
+pub mod Steps
