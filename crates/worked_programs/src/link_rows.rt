@@ -16,7 +16,7 @@ pub struct LinkRow {
 pub const CALL: &str = "section 1 1000 1000 1\nname 2000 2000 2 0 foo\n";
 
 /// The object of each format: a call of `foo` at 1000, whose field holds 2000 - 1005 = ffb.
-static CALLS: [LinkRow; 9] = [
+static CALLS: [LinkRow; 11] = [
     LinkRow {
         name: "elf32",
         object: "call.elf32",
@@ -60,6 +60,16 @@ static CALLS: [LinkRow; 9] = [
     LinkRow {
         name: "bigcoff64",
         object: "call.bigcoff64",
+        placement: CALL,
+    },
+    LinkRow {
+        name: "bigelf32",
+        object: "call.bigelf32",
+        placement: CALL,
+    },
+    LinkRow {
+        name: "bigcoff32",
+        object: "call.bigcoff32",
         placement: CALL,
     },
 ];

@@ -2,9 +2,11 @@
 //! fails.
 //!
 //! The lines of the objects come from an independent model of a listing, but for the calls in `elf64` and
-//! `coff64`, and in the forms of these for many sections. Of those `objdump -h -t -r` shows one section of 6 bytes, two symbols, and a distance from the
-//! end of the four bytes at 1 to `foo`: where both lie at 0 it is 0 - (1 + 4) = -5. The texts of the statuses
-//! are those of the command's description.
+//! `coff64`, and in all forms for many sections. Of those `objdump -h -t -r` shows one section of 6 bytes,
+//! two symbols, and a distance from the end of the four bytes at 1 to `foo`: where both lie at 0 it is
+//! 0 - (1 + 4) = -5. The headers of the difference that is a constant say sections of 32 and 4 bytes at
+//! multiples of 2^4, no symbol, and one pair that takes one section from itself: nothing is left of it. The
+//! texts of the statuses are those of the command's description.
 use crate::data::stored;
 use crate::list_runs::{HEADER, ListRun, RELOCATIONS, SECTIONS};
 use crate::outcomes::{Call, show};
@@ -12,7 +14,7 @@ use anyhow::Result;
 use std::alloc::Global;
 
 /// What is listed, and the file of it.
-const OBJECTS: [(&str, &str); 18] = [
+const OBJECTS: [(&str, &str); 21] = [
     ("a call in elf32", "call.elf32"),
     ("a call in elf64", "call.elf64"),
     ("a call in coff32", "call.coff32"),
@@ -31,6 +33,9 @@ const OBJECTS: [(&str, &str); 18] = [
     ("segments of five classes", "classes.omf"),
     ("a call in bigelf64", "call.bigelf64"),
     ("a call in bigcoff64", "call.bigcoff64"),
+    ("a call in bigelf32", "call.bigelf32"),
+    ("a call in bigcoff32", "call.bigcoff32"),
+    ("a difference that is a constant", "folded.mac32"),
 ];
 
 /// Words that ask for no listing, and what is wrong with them.

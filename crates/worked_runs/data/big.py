@@ -14,8 +14,20 @@ CODE, CODE_OF_16 = 0x60100020, 0x60500020
 TEXT = (".text", 6, 16, b"\xe8\0\0\0\0\xc3", [(1, "foo", 2, -4)])
 SYMBOLS = [("main", GLOBAL << 4 | FUNC, 1, 0, 0), ("foo", GLOBAL << 4, 0, 0, 0)]
 CALL = elf(64, [TEXT], [], SYMBOLS, big=True)
-CALL_COFF = coff(0x8664, [(".text", CODE_OF_16, TEXT[3], [(1, "foo", 4)])],
-                 [("main", 1, 0, 0x20), ("foo", 0, 0, 0)], big=True)
+# ELF of i386 has the addend in the field (psABI i386, "Relocation")
+TEXT32 = (".text", 6, 16, b"\xe8\xfc\xff\xff\xff\xc3", [(1, "foo", 2)])
+FUNCTION, FOO = ("main", 1, 0, 0x20), ("foo", 0, 0, 0)
+# Mach-O and OMF do not say that `main` is a function
+MAIN_ALONE = ("main", 1, 0, 0)
+
+
+def call_coff(word, *symbols):
+    """The call as a big COFF object of that word, with these symbols."""
+    machine, kind = (0x8664, 4) if word == 64 else (0x14C, 20)
+    return coff(machine, [(".text", CODE_OF_16, TEXT[3], [(1, "foo", kind)])], symbols, big=True)
+
+
+CALL_COFF = call_coff(64, FUNCTION, FOO)
 
 
 def with_bytes(file, *changes):
@@ -46,6 +58,12 @@ TOLD = (MAIN + 6, b"\1\0", b"\xff\xff")
 FILES = {
     "big_call.o": CALL,
     "big_call.obj": CALL_COFF,
+    "big_call_from_mac64.obj": call_coff(64, MAIN_ALONE, FOO),
+    "big_call_32.o": elf(32, [TEXT32], [], SYMBOLS, big=True),
+    "big_call_32.obj": call_coff(32, FUNCTION, FOO),
+    "big_call_from_mac32.obj": call_coff(32, MAIN_ALONE, FOO),
+    # OMF names `foo` first
+    "big_call_from_omf.obj": call_coff(32, FOO, MAIN_ALONE),
     # e_shoff is the end of the file
     "big_without_header_0.o": CALL[:header(CALL, 0)[0]],
     "big_of_no_header.o": with_bytes(CALL, (header(CALL, 0)[0] + 32, b"\7\0", b"\0\0")),
@@ -80,6 +98,11 @@ def many_coff(word):
     return coff(machine, [(".text", CODE, b"\xc3", [])] * (COUNT - 1) + [last], [(n, s, 0, 0x20) for n, s in NAMES], big=True)
 
 
+def plain_elf():
+    """Sections of one byte, and no symbols but their own."""
+    return elf(64, [(".text", 6, 1, b"\xc3", [])] * COUNT, [], [], big=True)
+
+
 if __name__ == "__main__":
     # the output of the row on a big COFF object, as it is stated
     assert CALL_COFF[:8] == bytes.fromhex("0000ffff02006486") and len(CALL_COFF) == 196
@@ -89,3 +112,4 @@ if __name__ == "__main__":
     for word in (64, 32):
         for form, file in (("bigelf", many_elf(word)), ("bigcoff", many_coff(word))):
             print(f"{form}{word}: {len(file)} bytes with the sum {fnv(file):016x}, and begins {file[:8].hex(' ')}")
+    print(f"plain bigelf64: {len(plain_elf())} bytes with the sum {fnv(plain_elf()):016x}")

@@ -48,39 +48,49 @@ const FUNCTIONS: [(&[u8; 8], u32); 4] = [
     (b"last\0\0\0\0", SECTIONS),
 ];
 
-// appends the file header, where the symbols lie at `table`
-fn put_header(bytes: &mut Vec<u8>, machine: u16, table: u32) -> Result<(), NoMemory> {
+// appends the file header, where so many entries of symbols lie at `table`
+fn put_header(bytes: &mut Vec<u8>, machine: u16, table: u32, count: u32) -> Result<(), NoMemory> {
     for number in [0, 0xFFFF, 2, machine, 0, 0] {
         half(bytes, number)?;
     }
     bytes.extend_from_slice(CLASS_ID.as_slice())?;
-    for number in [0, 0, 0, 0, SECTIONS, table, 4] {
+    for number in [0, 0, 0, 0, SECTIONS, table, count] {
         word(bytes, number)?;
+    }
+    Ok(())
+}
+
+// a section of code
+fn code() -> Section {
+    Section {
+        flags: CODE,
+        ..Section::default()
+    }
+}
+
+// appends so many section headers: the sections have one byte each
+fn put_plain(bytes: &mut Vec<u8>, raw: u32, count: u32) -> Result<(), NoMemory> {
+    for k in 0..count {
+        let one = Section {
+            size: 1,
+            raw: raw.wrapping_add(k),
+            ..code()
+        };
+        put_section(bytes, b".text\0\0\0", one)?;
     }
     Ok(())
 }
 
 // appends the section headers: the sections have one byte each, and the last one is a call
 fn put_sections(bytes: &mut Vec<u8>, raw: u32) -> Result<(), NoMemory> {
-    let code = Section {
-        flags: CODE,
-        ..Section::default()
-    };
-    for k in 0..SECTIONS - 1 {
-        let one = Section {
-            size: 1,
-            raw: raw.wrapping_add(k),
-            ..code
-        };
-        put_section(bytes, b".text\0\0\0", one)?;
-    }
+    put_plain(bytes, raw, SECTIONS - 1)?;
     let call = raw.wrapping_add(SECTIONS - 1);
     let last = Section {
         size: 5,
         raw: call,
         relocations: call.wrapping_add(5),
         count: 1,
-        ..code
+        ..code()
     };
     put_section(bytes, b".text\0\0\0", last)
 }
@@ -94,6 +104,7 @@ pub fn many_sections(alloc: Global, machine: Machine) -> Result<Vec<u8>> {
         &mut file,
         machine.machine,
         raw + SECTIONS + 4 + RELOCATION_SIZE,
+        4,
     )?;
     put_sections(&mut file, raw)?;
     file.extend_from_slice(vec![in alloc; 0xc3u8; 69_999]?.as_slice())?;
@@ -105,6 +116,33 @@ pub fn many_sections(alloc: Global, machine: Machine) -> Result<Vec<u8>> {
         word(&mut file, section)?;
         // a function, of class EXTERNAL, without auxiliary entries
         file.extend_from_slice(b"\x20\0\x02\0")?;
+    }
+    word(&mut file, 4)?;
+    Ok(file)
+}
+
+// appends the symbol of a section of one byte: of class STATIC, with one auxiliary entry
+fn put_section_symbol(bytes: &mut Vec<u8>, section: u32) -> Result<(), NoMemory> {
+    bytes.extend_from_slice(b".text\0\0\0")?;
+    word(bytes, 0)?;
+    word(bytes, section)?;
+    bytes.extend_from_slice(b"\0\0\x03\x01")?;
+    word(bytes, 1)?;
+    for _ in 0..4 {
+        word(bytes, 0)?;
+    }
+    Ok(())
+}
+
+/// 70,000 sections of code of one byte each, with no symbols but their own.
+pub fn plain_sections(alloc: Global, machine: Machine) -> Result<Vec<u8>> {
+    let mut file = Vec::new(alloc);
+    let raw = HEADER_SIZE + SECTION_SIZE * SECTIONS;
+    put_header(&mut file, machine.machine, raw + SECTIONS, 2 * SECTIONS)?;
+    put_plain(&mut file, raw, SECTIONS)?;
+    file.extend_from_slice(vec![in alloc; 0xc3u8; 70_000]?.as_slice())?;
+    for k in 0..SECTIONS {
+        put_section_symbol(&mut file, k.wrapping_add(1))?;
     }
     word(&mut file, 4)?;
     Ok(file)
