@@ -23,9 +23,9 @@ BOXES = [
 # what stands above the grid and below it, each with a heading, from the top
 ABOVE = [
     ("programs", [["objconv", "objconv_main"], ["objlink", "oc_linker"], ["objlist", "oc_lister"],
-                  ["objbatch", "oc_batch"], ["oc_runs", "oc_words"]]),
+                  ["objbatch", "oc_batch"], ["oc_runs", "oc_words", "oc_hint_text"]]),
     ("all formats", [["oc_dispatch", "oc_convert"], ["oc_canonical", "oc_built"], ["oc_made", "oc_making"], ["oc_link", "oc_place"],
-                     ["oc_listings", "oc_dump"]]),
+                     ["oc_listings", "oc_dump", "oc_hints"]]),
 ]
 BELOW = [("linking,\nbytes",
           [["oc_linking"], ["oc_algebra", "oc_chains"], ["oc_strings", "oc_weight"], ["oc_outside"], ["oc_base"]])]
