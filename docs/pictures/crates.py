@@ -22,8 +22,8 @@ BOXES = [
 ]
 # what stands above the grid and below it, each with a heading, from the top
 ABOVE = [
-    ("programs", [["objconv", "objconv_main"], ["objlink", "oc_linker"], ["objlist", "oc_lister"],
-                  ["objbatch", "oc_batch"], ["oc_runs", "oc_words", "oc_hint_text"]]),
+    ("programs", [["objconv", "objconv_main", "objconv_c"], ["objlink", "oc_linker"], ["objlist", "oc_lister"],
+                  ["objbatch", "oc_batch", "oc_embed"], ["oc_runs", "oc_words", "oc_hint_text"]]),
     ("all formats", [["oc_dispatch", "oc_convert"], ["oc_canonical", "oc_built"], ["oc_made", "oc_making"], ["oc_link", "oc_place"],
                      ["oc_listings", "oc_dump", "oc_hints"]]),
 ]
@@ -45,7 +45,7 @@ STEPS = [
 def check(root):
     """Each crate of crates.txt has a box, and each box a crate."""
     with open(os.path.join(root, "crates.txt"), encoding="ascii") as file:
-        there = {line.split(":")[0] for line in file if ":" in line and not line.startswith("#")}
+        there = {line.split(":")[0].split()[0] for line in file if ":" in line and not line.startswith("#")}
     drawn = {crate for *_, crates in BOXES for crate in crates} | set(BESIDE)
     drawn |= {crate for _, boxes in ABOVE + BELOW for crates in boxes for crate in crates}
     if not drawn - INSTANCES <= there <= drawn:
